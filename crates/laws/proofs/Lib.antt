@@ -1,0 +1,5 @@
+pub mod Cases
+pub mod Told
+pub mod Placed
+pub mod Format
+pub mod Bytes

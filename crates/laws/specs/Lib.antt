@@ -1,0 +1,4 @@
+pub mod Pick
+pub mod Told
+pub mod Placed
+pub mod Format

@@ -1,0 +1,76 @@
+-- A number's groups, taken one after the other from the lowest: what the reading loop keeps.
+-- Assumes nothing.
+use mathlib.Core.Path.{_≡_, refl, ap, ap₂}
+use mathlib.Core.Bool.{Bool, true, false}
+use mathlib.Core.List.{List}
+use Prim.Native.Nat.{ℕ, zero, suc, _+_, _-_, _*_, _/_, _%_, _^_, _<_, _≤_}
+use native.Mathlib.Omega.{arith}
+use native.Mathlib.Nat.{mul-le-mul, pow-le-pow-right, pow-suc, mul-comm}
+use Rattle.laws.proofs.Cases.{lt-cases}
+use lib.Dec.{ltb, leb}
+use lib.ListN.{length, getD}
+use borrow.Author.Tests.{lt-ltb, le-ltb, le-leb}
+use Rattle.laws.specs.Told.{Told, gives, refuses, Found, found, then}
+use Rattle.number.specs.Number.{largest, joined, capped, readGroups, numberAt}
+use Rattle.number.specs.Steps.{endedBy, finished}
+
+pub joined-capped : (group : ℕ) (rest : Told (Found ℕ)) → then (joined group rest) capped ≡ finished (group - 128) 128 rest
+joined-capped group (refuses number place) = refl
+joined-capped group (gives r) =
+    lt-cases 0 (r .value) (λ more. simp (lt-ltb _ _ more, mul-comm 128 (r .value))) (λ none. simp (le-ltb _ _ none))
+
+pub finished-joined : (low scale group : ℕ) (rest : Told (Found ℕ))
+    → finished low scale (joined group rest) ≡ finished (low + (group - 128) * scale) (scale * 128) rest
+finished-joined low scale group (refuses number place) = refl
+finished-joined low scale group (gives r) =
+    lt-cases 0 (r .value)
+    (λ more.
+    let positive : 0 < group - 128 + 128 * r .value = omega arith in
+    let same : low + (group - 128 + 128 * r .value) * scale ≡ low + (group - 128) * scale + r .value * (scale * 128) = omega arith in
+    simp (lt-ltb _ _ more, lt-ltb _ _ positive, same))
+    (λ none. simp (le-ltb _ _ none))
+
+-- what a turn finds where fewer than five groups were passed
+module _ (low scale passed : ℕ) (s : List ℕ) (at : ℕ) (few : passed < 5) where
+  one-less : 5 - passed ≡ suc (5 - (passed + 1))
+  one-less = omega arith
+
+  pub turn-cut : length s ≤ at → finished low scale (readGroups (5 - passed) s at) ≡ refuses 3 0
+  unfolding readGroups
+  turn-cut h = rw one-less (simp (le-ltb _ _ h))
+
+  module _ (inside : at < length s) where
+    pub turn-last : getD s at 0 < 128
+        → finished low scale (readGroups (5 - passed) s at) ≡ endedBy (low + getD s at 0 * scale) (getD s at 0) (at + 1)
+    unfolding readGroups
+    turn-last h = rw one-less (simp (lt-ltb _ _ inside, lt-ltb _ _ h))
+
+    pub turn-more : 128 ≤ getD s at 0
+        → finished low scale (readGroups (5 - passed) s at)
+        ≡ finished (low + (getD s at 0 - 128) * scale) (scale * 128) (readGroups (5 - (passed + 1)) s (at + 1))
+    unfolding readGroups
+    turn-more h =
+        rw one-less
+        (simp (lt-ltb _ _ inside, le-ltb _ _ h) (finished-joined low scale (getD s at 0) (readGroups (5 - (passed + 1)) s (at + 1))))
+
+pub turns-over : (low scale passed : ℕ) (s : List ℕ) (at : ℕ) → 5 ≤ passed → finished low scale (readGroups (5 - passed) s at) ≡ refuses 4 0
+unfolding readGroups
+turns-over low scale passed s at h = let over : 5 - passed ≡ 0 = omega arith in rw over
+
+-- a number by its first group
+module _ (s : List ℕ) (at : ℕ) where
+  pub number-cut : length s ≤ at → numberAt s at ≡ refuses 3 0
+  unfolding numberAt readGroups
+  number-cut h = simp (le-ltb _ _ h)
+
+  module _ (inside : at < length s) where
+    pub number-one : getD s at 0 < 128 → numberAt s at ≡ found (getD s at 0) (at + 1)
+    unfolding numberAt readGroups
+    number-one h =
+        let small : getD s at 0 ≤ largest = omega arith in
+        simp (lt-ltb _ _ inside, lt-ltb _ _ h, le-leb _ _ small)
+
+    pub number-more : 128 ≤ getD s at 0 → numberAt s at ≡ finished (getD s at 0 - 128) 128 (readGroups 4 s (at + 1))
+    unfolding numberAt readGroups
+    number-more h =
+        simp (lt-ltb _ _ inside, le-ltb _ _ h) (joined-capped (getD s at 0) (readGroups 4 s (at + 1)))
