@@ -1,10 +1,9 @@
 -- Lists of bytes: put together, and taken apart.
 -- Assumes nothing.
 use mathlib.Core.List.{List, [], _∷_, _++_}
-use mathlib.Core.Path.{_≡_}
 use Prim.Native.Nat.{ℕ, zero, suc, _+_, _<_}
 use lib.Dec.{lit<}
-use lib.ListN.{getD, take, drop, replicate}
+use lib.ListN.{take, drop}
 use lib.Seq.{getD-drop}
 use Rattle.laws.specs.Format.{Bytes}
 

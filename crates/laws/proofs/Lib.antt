@@ -3,3 +3,4 @@ pub mod Told
 pub mod Placed
 pub mod Format
 pub mod Bytes
+pub mod Tabulate

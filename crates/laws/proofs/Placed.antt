@@ -6,7 +6,7 @@ use Prim.Native.Nat.{ℕ, _+_, _<_, _≤_}
 use lib.ListN.{length}
 use lib.Seq.{sets}
 use borrow.Author.Tests.{le-leb, lt-leb}
-use Rattle.laws.specs.Told.{Told, gives, refuses}
+use Rattle.laws.specs.Told.{gives, refuses}
 use Rattle.laws.specs.Placed.{placed, placing}
 
 module _ (out : List ℕ) (at : ℕ) (bytes : List ℕ) where

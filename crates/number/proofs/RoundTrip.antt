@@ -1,7 +1,6 @@
 -- Numbers are written and read inversely, so no number has two forms.
 -- Assumes nothing.
-use mathlib.Core.Path.{_≡_, refl, sym, ap, _∙_, subst}
-use mathlib.Core.Bool.{true}
+use mathlib.Core.Path.{_≡_, sym, ap, _∙_, subst}
 use mathlib.Core.List.{List, [], _∷_, _++_, append-assoc}
 use Prim.Native.Nat.{ℕ, zero, suc, _+_, _-_, _*_, _/_, _%_, _^_, _<_, _≤_}
 use native.Mathlib.Omega.{arith}
@@ -11,7 +10,7 @@ use lib.Dec.{ltb, leb, lit<}
 use lib.ListN.{length, getD, drop, length-append}
 use lib.Seq.{drop-cons, getD-append-seam}
 use borrow.Author.Tests.{lt-ltb, le-ltb, le-leb, ltb-true, leb-true}
-use Rattle.laws.specs.Told.{Told, gives, refuses, Found, found, then, unless}
+use Rattle.laws.specs.Told.{gives, refuses, Found, found}
 use Rattle.laws.specs.Format.{Bytes, Inverse}
 use Rattle.laws.proofs.Cases.{lt-cases}
 use Rattle.laws.proofs.Bytes.{bytes-nil, bytes-cons}

@@ -1,7 +1,7 @@
 -- `number::length` meets its contract: each branch says between which powers of 128 the number lies.
 -- Assumes nothing.
-use native.Mathlib.Omega.{arith}
 use mathlib.Core.Path.{sym}
+use native.Mathlib.Omega.{arith}
 use lib.Dec.{lit≤}
 use Rattle.number.proofs.Written.{shortest, sized}
 use Rattle.number.proofs.length.Statement.{statement}

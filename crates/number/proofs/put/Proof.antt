@@ -1,11 +1,11 @@
 -- `number::put` meets its contract. The loop's invariant: what is left to write, written from here, makes the whole.
 -- Assumes nothing.
-use native.Mathlib.Omega.{arith}
-use borrow.Author.Needs.{needs}
 use mathlib.Core.Path.{_≡_, refl, _∙_, sym}
-use Prim.Native.Nat.{ℕ, _+_, _/_, _<_, _≤_, _^_}
+use Prim.Native.Nat.{_+_, _/_, _<_, _≤_, _^_}
+use native.Mathlib.Omega.{arith}
 use lib.ListN.{length, length-set}
 use lib.Seq.{sets}
+use borrow.Author.Needs.{needs}
 use Rattle.number.specs.Number.{written}
 use Rattle.number.proofs.Written.{longer, shortest, sets-last, sets-more}
 use Rattle.number.proofs.put.Statement.{statement}

@@ -1,8 +1,8 @@
 -- `number::read` meets its contract, by the number's first group.
 -- Assumes nothing.
+use mathlib.Core.Path.{_∙_, sym}
 use native.Mathlib.Omega.{arith}
 use borrow.Author.Needs.{needs}
-use mathlib.Core.Path.{_∙_, sym}
 use Rattle.number.proofs.Groups.{number-cut, number-one, number-more}
 use Rattle.number.proofs.read.Statement.{statement}
 use Rattle.number.proofs.read.Tie as tie

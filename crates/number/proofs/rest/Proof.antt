@@ -1,14 +1,13 @@
 -- `number::rest` meets its contract. The loop's invariant: the groups passed make `value`, the rest counts `scale` times.
 -- Assumes nothing.
-use native.Mathlib.Omega.{arith}
-use borrow.Author.Needs.{needs}
 use mathlib.Core.Path.{_≡_, refl, _∙_, sym}
-use Prim.Native.Nat.{ℕ, suc, _+_, _-_, _*_, _^_, _<_, _≤_}
+use Prim.Native.Nat.{_-_, _^_, _<_, _≤_}
+use native.Mathlib.Omega.{arith}
 use native.Mathlib.Nat.{mul-le-mul-right, pow-le-pow-right, pow-suc}
 use native.Mathlib.Numerals.{add-one}
 use lib.Dec.{lit<}
-use lib.ListN.{length, getD}
-use Rattle.laws.specs.Told.{Told, Found}
+use lib.ListN.{getD}
+use borrow.Author.Needs.{needs}
 use Rattle.number.specs.Number.{readGroups}
 use Rattle.number.specs.Steps.{finished}
 use Rattle.number.proofs.Groups.{turn-cut, turn-last, turn-more, turns-over}

@@ -1,11 +1,11 @@
 -- `number::write` meets its contract: its tests say whether the number's bytes fit.
 -- Assumes nothing.
-use native.Mathlib.Omega.{arith}
-use borrow.Author.Needs.{needs}
 use mathlib.Core.Path.{_∙_, ap}
 use Prim.Native.Nat.{ℕ, _+_, _<_, _≤_}
-use denote.Ref.{now}
+use native.Mathlib.Omega.{arith}
 use lib.ListN.{length}
+use denote.Ref.{now}
+use borrow.Author.Needs.{needs}
 use Rattle.laws.proofs.Placed.{too-short, with-room}
 use Rattle.laws.specs.Told.{gives}
 use Rattle.number.specs.Number.{written}

@@ -1,0 +1,37 @@
+-- A list by its elements' places: its length, its elements, and how a loop fills it from the front.
+-- Assumes nothing.
+use mathlib.Core.Path.{_≡_, refl, ap, _∙_}
+use mathlib.Core.List.{List, [], _∷_, _++_}
+use Prim.Native.Nat.{ℕ, zero, suc, _<_}
+use native.Mathlib.Nat.{not-suc-le-zero, le-of-suc-le-suc}
+use native.Mathlib.Omega.{arith}
+use lib.ListN.{length, getD, take, set, length-set}
+use lib.Seq.{take-suc-set, take-all}
+use Rattle.laws.specs.Tabulate.{tabulate, Filled}
+
+pub length-tabulate : {A : Type 0} (n : ℕ) (f : ℕ → A) → length (tabulate n f) ≡ n
+length-tabulate zero f = refl
+length-tabulate (suc n) f = ap suc (length-tabulate n (λ i. f (suc i)))
+
+pub getD-tabulate : {A : Type 0} (n : ℕ) (f : ℕ → A) (i : ℕ) (d : A) → i < n → getD (tabulate n f) i d ≡ f i
+getD-tabulate zero f i d h = absurd (not-suc-le-zero h)
+getD-tabulate (suc n) f zero d h = refl
+getD-tabulate (suc n) f (suc i) d h = getD-tabulate n (λ j. f (suc j)) i d (le-of-suc-le-suc h)
+
+pub tabulate-more : {A : Type 0} (n : ℕ) (f : ℕ → A) → tabulate (suc n) f ≡ tabulate n f ++ (f n ∷ [])
+tabulate-more zero f = refl
+tabulate-more (suc n) f = ap (λ rest. f zero ∷ rest) (tabulate-more n (λ i. f (suc i)))
+
+module _ {A : Type 0} (size : ℕ) (f : ℕ → A) where
+  pub filled-none : (l : List A) → length l ≡ size → Filled size f l 0
+  filled-none l long = (long, refl)
+
+  pub filled-next : (l l′ : List A) (n next : ℕ) → n < size → next ≡ suc n → l′ ≡ set l n (f n) → Filled size f l n → Filled size f l′ next
+  filled-next l l′ n next inside is after (long, before) =
+      let within : n < length l = omega arith in
+      rw (is, after) (length-set l n (f n) ∙ long, take-suc-set l n (f n) within ∙ rw (before, tabulate-more n f))
+
+  pub filled-whole : (l : List A) (n : ℕ) → n ≡ size → Filled size f l n → l ≡ tabulate size f
+  filled-whole l n is (long, before) =
+      let whole : take size l ≡ tabulate size f = rw is at before in
+      rw (take-all size l (omega arith)) at whole

@@ -1,0 +1,4 @@
+pub mod Bytes
+pub mod Padded
+pub mod Schedule
+pub mod Working

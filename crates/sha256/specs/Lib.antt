@@ -1,0 +1,3 @@
+pub mod Sha256
+pub mod Answer
+pub mod Steps
