@@ -1,0 +1,71 @@
+-- `vectors::written_line` meets its contract.
+-- Assumes nothing.
+use mathlib.Core.Path.{_≡_, sym}
+use Prim.Native.Nat.{_≤_}
+use native.Mathlib.Omega.{arith}
+use lib.ListN.{length, replicate}
+use lib.Seq.{length-take-le}
+use Rattle.laws.specs.Told.{gives}
+use Rattle.laws.specs.Placed.{placed}
+use Rattle.number.specs.Number.{written}
+use Rattle.laws.proofs.Placed.{was-room}
+use borrow.Author.Needs.{needs}
+use Rattle.vectors.proofs.written_line.Statement.{statement}
+use Rattle.vectors.proofs.written_line.Tie as tie
+
+slice-aggregate-write : tie.Need-slice-aggregate-write
+slice-aggregate-write c = search needs
+
+write-requires : tie.Need-write-requires
+write-requires c κs = search needs
+
+enum-known-next : tie.Need-enum-known-next
+enum-known-next c = search needs
+
+-- the number's bytes end within the buffer
+within : (c : tie.After-next) → c .next .given .0 .0 ≤ length (c .before .before .before .write .last .0)
+within c =
+    let write = c .before .before .before .write in
+    let value = c .before .before .before .before .before .args .value in
+    let told : gives (c .next .given .0 .0) ≡ placed (replicate 5 0) 0 (written value) = rw (c .next .given .1) at (write .ensures .0) in
+    omega (arith, was-room (replicate 5 0) 0 (written value) (c .next .given .0 .0) (sym told), write .kept)
+
+array-share-prefix-out : tie.Need-array-share-prefix-out
+array-share-prefix-out c = within (c .before)
+
+slice-aggregate-read-line : tie.Need-slice-aggregate-read-line
+slice-aggregate-read-line c = sym (length-take-le _ _ (within (c .before .before)))
+
+read-line-requires : tie.Need-read-line-requires
+read-line-requires c κs = search needs
+
+enum-told : tie.Need-enum-told
+enum-told c = search needs
+
+slice-aggregate-text : tie.Need-slice-aggregate-text
+slice-aggregate-text c = search needs
+
+text-requires : tie.Need-text-requires
+text-requires c κs = search needs
+
+returns : tie.Need-returns
+returns c = search needs
+
+returns-2 : tie.Need-returns-2
+returns-2 c = search needs
+
+pub written-line-spec : {M : Type 1} → statement M
+written-line-spec =
+    tie.close
+    (tie.spec
+    slice-aggregate-write
+    write-requires
+    enum-known-next
+    array-share-prefix-out
+    slice-aggregate-read-line
+    read-line-requires
+    enum-told
+    slice-aggregate-text
+    text-requires
+    returns
+    returns-2)

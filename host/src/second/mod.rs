@@ -1,0 +1,15 @@
+//! The rules of 01 once more, in plain Rust. Nothing here is taken from the proved code or its specifications.
+pub mod number;
+pub mod sha256;
+
+/// A refusal: its number and its place.
+#[derive(Debug, Clone, Copy, PartialEq, Eq)]
+pub struct Refusal {
+    pub number: u32,
+    pub place: u32,
+}
+
+/// A refusal with no place.
+pub fn refusal(number: u32) -> Refusal {
+    Refusal { number, place: 0 }
+}
