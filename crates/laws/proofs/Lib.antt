@@ -4,3 +4,5 @@ pub mod Placed
 pub mod Format
 pub mod Bytes
 pub mod Tabulate
+pub mod Every
+pub mod Answers

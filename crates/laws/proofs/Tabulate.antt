@@ -1,9 +1,9 @@
 -- A list by its elements' places: its length, its elements, and how a loop fills it from the front.
 -- Assumes nothing.
-use mathlib.Core.Path.{_≡_, refl, ap, _∙_}
+use mathlib.Core.Path.{_≡_, refl, ap, ap₂, _∙_}
 use mathlib.Core.List.{List, [], _∷_, _++_}
-use Prim.Native.Nat.{ℕ, zero, suc, _<_}
-use native.Mathlib.Nat.{not-suc-le-zero, le-of-suc-le-suc}
+use Prim.Native.Nat.{ℕ, zero, suc, _<_, suc-le-suc}
+use native.Mathlib.Nat.{not-suc-le-zero, le-of-suc-le-suc, zero-lt-suc}
 use native.Mathlib.Omega.{arith}
 use lib.ListN.{length, getD, take, set, length-set}
 use lib.Seq.{take-suc-set, take-all}
@@ -35,3 +35,8 @@ module _ {A : Type 0} (size : ℕ) (f : ℕ → A) where
   filled-whole l n is (long, before) =
       let whole : take size l ≡ tabulate size f = rw is at before in
       rw (take-all size l (omega arith)) at whole
+
+pub tabulate-same : {A : Type 0} (n : ℕ) (f g : ℕ → A) → ((i : ℕ) → i < n → f i ≡ g i) → tabulate n f ≡ tabulate n g
+tabulate-same zero f g h = refl
+tabulate-same (suc n) f g h =
+    ap₂ (λ a rest. a ∷ rest) (h 0 (zero-lt-suc n)) (tabulate-same n (λ i. f (suc i)) (λ i. g (suc i)) (λ i l. h (suc i) (suc-le-suc l)))

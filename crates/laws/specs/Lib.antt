@@ -3,3 +3,5 @@ pub mod Told
 pub mod Placed
 pub mod Format
 pub mod Tabulate
+pub mod Every
+pub mod Answers

@@ -24,3 +24,12 @@ then (refuses number place) go = refuses number place
 -- goes on where a test holds, else refuses
 abbrev pub unless : {A : Type 0} → Bool → ℕ → ℕ → Told A → Told A
 unless fine number place go = pick fine go (refuses number place)
+
+-- the refusal's number, 0 where there is none, and its place
+abbrev pub numberOf : {A : Type 0} → Told A → ℕ
+numberOf (gives a) = 0
+numberOf (refuses number place) = number
+
+abbrev pub placeOf : {A : Type 0} → Told A → ℕ
+placeOf (gives a) = 0
+placeOf (refuses number place) = place

@@ -1,3 +1,4 @@
+pub mod Answers
 pub mod Groups
 pub mod Written
 pub mod RoundTrip

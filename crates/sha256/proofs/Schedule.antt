@@ -4,20 +4,19 @@ use mathlib.Core.Path.{_≡_, refl, sym, _∙_}
 use mathlib.Core.List.{List}
 use Prim.Native.Nat.{ℕ, zero, suc, _-_, _<_, _≤_}
 use native.Mathlib.Omega.{arith}
-use lib.Dec.{lit≤}
-use lib.ListN.{length, take, set, length-set}
-use lib.Seq.{length-take-le, take-all, take-take, take-suc, take-suc-set, getD-take}
+use lib.ListN.{length, getD, take, set, length-set}
+use lib.Seq.{take-all, take-suc-set, getD-take}
 use borrow.Author.Tests.{lt-ltb, le-ltb}
+use Rattle.laws.specs.Tabulate.{tabulate}
+use Rattle.laws.proofs.Tabulate.{tabulate-more}
 use Rattle.sha256.specs.Sha256.{mixed, schedule}
 use Rattle.sha256.specs.Steps.{Made}
 
 -- a block's own words come first
-pub early : (block : List ℕ) (t : ℕ) → t ≤ length block → t ≤ 16 → take t block ≡ schedule block t
+pub early : (block : List ℕ) (t : ℕ) → t ≤ 16 → tabulate t (λ i. getD block i 0) ≡ schedule block t
 unfolding schedule
-early block zero h few = refl
-early block (suc t) h few =
-    let before = early block t (omega arith) (omega arith) in
-    rw (take-suc block t 0 h, before) (simp (lt-ltb _ _ few))
+early block zero few = refl
+early block (suc t) few = rw (tabulate-more t (λ i. getD block i 0), early block t (omega arith)) (simp (lt-ltb _ _ few))
 
 -- a word mixed from all of w is mixed from what stands below t
 mixed-take : (w : List ℕ) (t : ℕ) → 16 ≤ t → mixed w t ≡ mixed (take t w) t
@@ -40,12 +39,6 @@ pub made-next : (block w w′ : List ℕ) (t next : ℕ) → 16 ≤ t → t < 64
 made-next block w w′ t next late inside is after (long, before) =
     let within : t < length w = omega arith in
     rw (is, after) (length-set w t (mixed w t) ∙ long, extended block w t late within before)
-
-pub made-start : (words : List ℕ) → length words ≡ 64 → Made (take 16 words) words 16
-made-start words long =
-    let sixteen : length (take 16 words) ≡ 16 = length-take-le 16 words (omega arith) in
-    let same : take 16 (take 16 words) ≡ take 16 words = take-take 16 16 words (lit≤ tt) in
-    (long, sym same ∙ early (take 16 words) 16 (omega arith) (lit≤ tt))
 
 pub made-whole : (block w : List ℕ) → Made block w 64 → w ≡ schedule block 64
 made-whole block w (long, made) = sym (take-all 64 w (omega arith)) ∙ made

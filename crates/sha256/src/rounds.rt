@@ -9,7 +9,7 @@ use crate::bits::sum;
 ghost use mathlib.Core.Path.{_≡_};
 ghost use mathlib.Core.List.{List};
 ghost use Prim.Native.Nat.{ℕ, _+_, _≤_, _<_};
-ghost use lib.ListN.{getD, set, take};
+ghost use lib.ListN.{getD, set};
 ghost use Rattle.sha256.specs.Sha256 as sha;
 ghost use Rattle.sha256.specs.Steps.{Made};
 
@@ -87,12 +87,12 @@ pub fn constants() -> [u32; 64]
     ROUND_CONSTANTS
 }
 
-// The hash after one more block, the first sixteen of `words`.
-pub fn compress(hash: [u32; 8], words: [u32; 64], constants: &[u32; 64]) -> [u32; 8]
+// The hash after one more block.
+pub fn compress(hash: [u32; 8], block: [u32; 16], constants: &[u32; 64]) -> [u32; 8]
     requires { ⌜ now constants ≡ sha.roundConstants ⌝ }
-    ensures { λ r. ⌜ r ≡ sha.compressed hash (take 16 words) ⌝ }
+    ensures { λ r. ⌜ r ≡ sha.compressed hash block ⌝ }
 {
-    let s = rounds(hash, schedule(words), constants);
+    let s = rounds(hash, schedule(block), constants);
     [
         sum(hash[0], s[0]),
         sum(hash[1], s[1]),
@@ -105,14 +105,27 @@ pub fn compress(hash: [u32; 8], words: [u32; 64], constants: &[u32; 64]) -> [u32
     ]
 }
 
-fn schedule(words: [u32; 64]) -> [u32; 64]
-    ensures { λ r. ⌜ r ≡ sha.schedule (take 16 words) 64 ⌝ }
+fn schedule(block: [u32; 16]) -> [u32; 64]
+    ensures { λ r. ⌜ r ≡ sha.schedule block 64 ⌝ }
 {
-    let mut w = words;
+    let mut w = first_words(block);
     let mut t = 16;
     while t < 64 {
         extend_by_eight(&mut w, t);
         t += 8;
+    }
+    w
+}
+
+// A schedule begins with the block's own words.
+fn first_words(block: [u32; 16]) -> [u32; 64]
+    ensures { λ r. ⌜ Made block r 16 ⌝ }
+{
+    let mut w = [0u32; 64];
+    let mut t = 0;
+    while t < 16 {
+        w[t] = block[t];
+        t += 1;
     }
     w
 }

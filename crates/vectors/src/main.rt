@@ -1,12 +1,16 @@
 // Runs published vectors: FIPS 180-4's and lengths around a block for SHA-256, and 01's table for numbers. Writes what comes out, a line each.
 use libc::STDOUT_FILENO;
-use number::{Reading, Writing};
+use number::Reading;
+use number::Writing;
 use sha256::Answer;
 
 fn main() {
     digest_line(b"empty", b"");
     digest_line(b"abc", b"abc");
-    digest_line(b"448 bits", b"abcdbcdecdefdefgefghfghighijhijkijkljklmklmnlmnomnopnopq");
+    digest_line(
+        b"448 bits",
+        b"abcdbcdecdefdefgefghfghighijhijkijkljklmklmnlmnomnopnopq",
+    );
     digest_line(
         b"896 bits",
         b"abcdefghbcdefghicdefghijdefghijkefghijklfghijklmghijklmnhijklmnoijklmnopjklmnopqklmnopqrlmnopqrsmnopqrstnopqrstu",

@@ -5,11 +5,11 @@ use Prim.Native.Nat.{_≤_}
 use native.Mathlib.Omega.{arith}
 use lib.ListN.{length, replicate}
 use lib.Seq.{length-take-le}
+use borrow.Author.Needs.{needs}
 use Rattle.laws.specs.Told.{gives}
 use Rattle.laws.specs.Placed.{placed}
 use Rattle.number.specs.Number.{written}
 use Rattle.laws.proofs.Placed.{was-room}
-use borrow.Author.Needs.{needs}
 use Rattle.vectors.proofs.written_line.Statement.{statement}
 use Rattle.vectors.proofs.written_line.Tie as tie
 

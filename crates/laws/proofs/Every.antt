@@ -1,0 +1,30 @@
+-- What a test over a list of cases says of each case.
+-- Assumes nothing.
+use mathlib.Core.Path.{_≡_, refl, ap₂}
+use mathlib.Core.Bool.{Bool, true, false}
+use mathlib.Core.List.{List, [], _∷_}
+use Prim.Native.Nat.{ℕ, zero, suc, _<_}
+use native.Mathlib.Nat.{not-suc-le-zero, le-of-suc-le-suc}
+use lib.Dec.{T, eqb, eqb→eq}
+use lib.ListN.{length, getD}
+use Rattle.laws.specs.Every.{both, every, same}
+
+pub both-left : (a b : Bool) → T (both a b) → T a
+both-left true b t = tt
+both-left false b t = absurd t
+
+pub both-right : (a b : Bool) → T (both a b) → T b
+both-right true b t = t
+both-right false b t = absurd t
+
+pub each : {A : Type 0} (test : A → Bool) (cases : List A) (d : A) → T (every test cases) → (i : ℕ) → i < length cases → T (test (getD cases i d))
+each test [] d t i h = absurd (not-suc-le-zero h)
+each test (a ∷ rest) d t zero h = both-left (test a) (every test rest) t
+each test (a ∷ rest) d t (suc i) h = each test rest d (both-right (test a) (every test rest) t) i (le-of-suc-le-suc h)
+
+pub same-is : (xs ys : List ℕ) → T (same xs ys) → xs ≡ ys
+same-is [] [] t = refl
+same-is [] (y ∷ ys) t = absurd t
+same-is (x ∷ xs) [] t = absurd t
+same-is (x ∷ xs) (y ∷ ys) t =
+    ap₂ (λ a rest. a ∷ rest) (eqb→eq x y (both-left (eqb x y) (same xs ys) t)) (same-is xs ys (both-right (eqb x y) (same xs ys) t))
