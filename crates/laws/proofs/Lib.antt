@@ -6,3 +6,4 @@ pub mod Bytes
 pub mod Tabulate
 pub mod Every
 pub mod Answers
+pub mod Sets

@@ -1,18 +1,15 @@
--- What is told of a reading and of a writing loses nothing.
+-- What is told of a reading loses nothing.
 -- Assumes nothing.
 use mathlib.Core.Path.{_≡_, refl}
-use mathlib.Core.Bool.{Bool, true, false}
 use Prim.Native.Nat.{ℕ}
 use lib.Dec.{eqb}
 use Rattle.laws.specs.Pick.{pick}
 use Rattle.laws.specs.Told.{Told, gives, refuses, Found}
 use Rattle.laws.specs.Answers.{Faithful}
 use Rattle.laws.proofs.Answers.{undone}
-use Rattle.number.specs.Number.{told, toldWriting}
+use Rattle.number.specs.Number.{told}
 use Rattle.number.specs.declared.Reading.{Reading}
 use Rattle.number.specs.declared.Reading.the-variants.{Value, Cut, Badly}
-use Rattle.number.specs.declared.Writing.{Writing}
-use Rattle.number.specs.declared.Writing.the-variants.{Next, Short}
 
 readingOf : Told (Found ℕ) → Reading
 readingOf (gives r) = Value (r .value) (r .next)
@@ -26,15 +23,3 @@ reading-back Badly = refl
 
 pub reading-faithful : Faithful told
 reading-faithful = undone told readingOf reading-back
-
-writingOf : Told ℕ → Writing
-writingOf (gives next) = Next next
-writingOf (refuses number place) = Short
-
-writing-back : (w : Writing) → writingOf (toldWriting w) ≡ w
-unfolding writingOf
-writing-back (Next next) = refl
-writing-back Short = refl
-
-pub writing-faithful : Faithful toldWriting
-writing-faithful = undone toldWriting writingOf writing-back

@@ -8,8 +8,6 @@ use Rattle.laws.specs.Pick.{pick}
 use Rattle.laws.specs.Told.{Told, gives, refuses, Found, found, then, unless}
 use Rattle.number.specs.declared.Reading.{Reading}
 use Rattle.number.specs.declared.Reading.the-variants.{Value, Cut, Badly}
-use Rattle.number.specs.declared.Writing.{Writing}
-use Rattle.number.specs.declared.Writing.the-variants.{Next, Short}
 
 -- "the largest number is 4,294,967,295"
 abbrev pub largest : ℕ
@@ -47,7 +45,3 @@ abbrev pub told : Reading → Told (Found ℕ)
 told (Value v n) = found v n
 told Cut = refuses 3 0
 told Badly = refuses 4 0
-
-abbrev pub toldWriting : Writing → Told ℕ
-toldWriting (Next next) = gives next
-toldWriting Short = refuses 15 0

@@ -1,10 +1,12 @@
 // Numbers of seven-bit groups (01, "Numbers and digests"): read at a place of a slice, written at a place of a lent buffer, and their length.
+use buffer::Writing;
 ghost use mathlib.Core.Path.{_≡_};
 ghost use Prim.Native.Nat.{_+_, _<_, _≤_};
 ghost use lib.ListN.{length};
 ghost use lib.Seq.{sets};
 ghost use Rattle.laws.specs.Placed.{placed, placing};
-ghost use Rattle.number.specs.Number.{written, readGroups, numberAt, told, toldWriting};
+ghost use Rattle.buffer.specs.Writing.{told as toldWriting};
+ghost use Rattle.number.specs.Number.{written, readGroups, numberAt, told};
 ghost use Rattle.number.specs.Steps.{endedBy, finished};
 
 pub type Number = u32;
@@ -19,14 +21,6 @@ pub enum Reading {
     Cut,
     // not the shortest form, or too large
     Badly,
-}
-
-// What writing answers.
-pub enum Writing {
-    // the place after the number
-    Next(usize),
-    // the buffer is too short: no byte was changed
-    Short,
 }
 
 pub fn read(s: &[u8], at: usize) -> Reading
@@ -103,14 +97,12 @@ pub fn write(out: &mut [u8], at: usize, value: Number) -> Writing
     ensures buffer { λ _. ⌜ now (out .exit) ≡ placing (now (out .entry)) at (written value) ⌝ }
 {
     let size = length(value);
-    if out.len() < size {
-        return Writing::Short;
+    if buffer::fits(out.len(), at, size) {
+        put(out, at, value);
+        Writing::Next(at + size)
+    } else {
+        Writing::Short
     }
-    if out.len() - size < at {
-        return Writing::Short;
-    }
-    put(out, at, value);
-    Writing::Next(at + size)
 }
 
 // Writes a number for which there is room.

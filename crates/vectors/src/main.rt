@@ -1,7 +1,7 @@
 // Runs published vectors: FIPS 180-4's and lengths around a block for SHA-256, and 01's table for numbers. Writes what comes out, a line each.
+use buffer::Writing;
 use libc::STDOUT_FILENO;
 use number::Reading;
-use number::Writing;
 use sha256::Answer;
 
 fn main() {
