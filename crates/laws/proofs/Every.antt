@@ -3,12 +3,13 @@
 use mathlib.Core.Path.{_≡_, refl, ap₂}
 use mathlib.Core.Bool.{Bool, true, false}
 use mathlib.Core.List.{List, [], _∷_}
-use Prim.Native.Nat.{ℕ, zero, suc, _<_}
+use Prim.Native.Nat.{ℕ, zero, suc, _<_, _≤_}
 use native.Mathlib.Nat.{not-suc-le-zero, le-of-suc-le-suc}
 use native.Mathlib.Omega.{arith}
-use lib.Dec.{T, eqb, eqb→eq}
+use lib.Dec.{T, leb, eqb, eqb→eq}
+use borrow.Author.Tests.{leb-true}
 use lib.ListN.{length, getD}
-use Rattle.laws.specs.Every.{both, every, same}
+use Rattle.laws.specs.Every.{both, within, every, same}
 
 pub both-left : (a b : Bool) → T (both a b) → T a
 both-left true b t = tt
@@ -33,3 +34,6 @@ same-is (x ∷ xs) (y ∷ ys) t =
 pub both-true : (a b : Bool) → both a b ≡ true → (a ≡ true) × (b ≡ true)
 both-true true b e = (refl, e)
 both-true false b e = let z : _≡_ {A = ℕ} 0 1 = cc in absurd (omega arith)
+
+pub within-true : (least most n : ℕ) → within least most n ≡ true → (least ≤ n) × (n ≤ most)
+within-true least most n e = let (low, high) = both-true (leb least n) (leb n most) e in (leb-true _ _ low, leb-true _ _ high)

@@ -7,3 +7,4 @@ pub mod Tabulate
 pub mod Every
 pub mod Answers
 pub mod Sets
+pub mod Repeated

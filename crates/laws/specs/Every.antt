@@ -3,11 +3,15 @@
 use Prim.Native.Nat.{ℕ}
 use mathlib.Core.Bool.{Bool, true, false}
 use mathlib.Core.List.{List, [], _∷_}
-use lib.Dec.{eqb}
+use lib.Dec.{leb, eqb}
 
 abbrev pub both : Bool → Bool → Bool
 both true b = b
 both false b = false
+
+-- a number from the least to the most
+abbrev pub within : ℕ → ℕ → ℕ → Bool
+within least most n = both (leb least n) (leb n most)
 
 -- the test passes at each case
 abbrev pub every : {A : Type 0} → (A → Bool) → List A → Bool

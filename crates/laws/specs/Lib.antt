@@ -5,3 +5,4 @@ pub mod Format
 pub mod Tabulate
 pub mod Every
 pub mod Answers
+pub mod Repeated

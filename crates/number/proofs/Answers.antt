@@ -3,6 +3,10 @@
 use mathlib.Core.Path.{_≡_, refl}
 use Prim.Native.Nat.{ℕ}
 use lib.Dec.{eqb}
+use mathlib.Core.List.{[], _∷_}
+use types.Run.{OneOf, miss}
+use denote.Enum.Declared.{tagOf}
+use Rattle.number.proofs.Reading.{the-type}
 use Rattle.laws.specs.Pick.{pick}
 use Rattle.laws.specs.Told.{Told, gives, refuses, Found}
 use Rattle.laws.specs.Answers.{Faithful}
@@ -23,3 +27,9 @@ reading-back Badly = refl
 
 pub reading-faithful : Faithful told
 reading-faithful = undone told readingOf reading-back
+
+-- a reading that is no value refuses
+pub not-a-value : (r : Reading) → OneOf (1 ∷ 2 ∷ []) (tagOf the-type r) → (number : ℕ) × (told r ≡ refuses number 0)
+not-a-value (Value v n) h = absurd (miss (1 ∷ 2 ∷ []) 0 tt h)
+not-a-value Cut h = (3, refl)
+not-a-value Badly h = (4, refl)

@@ -1,0 +1,55 @@
+-- 01, "Genesis": "In order: n, t and u as numbers, the starting release of displays 0 to 63 as 64 numbers, then n keys of 32 bytes, and nothing
+-- after."
+-- Assumes nothing.
+use Prim.Native.Nat.{ℕ, _+_, _-_, _*_, _%_}
+use mathlib.Core.Bool.{Bool}
+use mathlib.Core.List.{List}
+use lib.Dec.{ltb, leb, eqb}
+use lib.ListN.{length}
+use Rattle.laws.specs.Pick.{pick}
+use Rattle.laws.specs.Told.{Told, gives, refuses, Found, found, then, unless}
+use Rattle.laws.specs.Every.{both, within}
+use Rattle.laws.specs.Repeated.{repeated}
+use Rattle.number.specs.Number.{numberAt}
+use Rattle.genesis.specs.declared.Genesis.{Genesis}
+use Rattle.genesis.specs.declared.Head.{Head}
+
+-- n, t and u, and the place of the releases
+abbrev pub headAt : List ℕ → Told (Found Head)
+headAt s =
+    then (numberAt s 0) λ n. then (numberAt s (n .next)) λ t. then (numberAt s (t .next)) λ u.
+    found (record { n = n .value; t = t .value; u = u .value }) (u .next)
+
+-- "n is 1 to 31. n must be at least 5t + 1 .. u, the slots that an order stays pooled, is 1 to 64."
+abbrev pub rules : Head → Bool
+rules h = both (within 1 31 (h .n)) (both (leb (5 * h .t + 1) (h .n)) (within 1 64 (h .u)))
+
+-- "and nothing after": what may follow the keys, which end at a place
+abbrev pub ended : List ℕ → ℕ → Bool
+ended s place = eqb place (length s)
+
+abbrev pub tableAt : List ℕ → Head → Found (List ℕ) → Told Genesis
+tableAt s h releases =
+    unless (both (rules h) (ended s (releases .next + 32 * h .n))) 1 0
+    (gives (record { n = h .n; t = h .t; u = h .u; releases = releases .value; keys = releases .next }))
+
+-- every fault of a genesis is refusal 1
+abbrev pub faulty : {A : Type 0} → Told A → Told A
+faulty (gives a) = gives a
+faulty (refuses number place) = refuses 1 0
+
+unfoldable pub genesisOf : List ℕ → Told Genesis
+genesisOf s = faulty (then (headAt s) λ h. then (repeated numberAt 64 s (h .next)) λ releases. tableAt s (h .value) releases)
+
+-- "The turn in slot j belongs to controller i with i − 1 = (j − 1) mod n." A table of no controllers has no turns
+abbrev pub turn : Genesis → ℕ → ℕ
+turn g slot = pick (ltb 0 (g .n)) ((slot - 1) % g .n + 1) 0
+
+-- how many slots a block must lie back to be settled
+abbrev pub depth : Genesis → ℕ
+depth g = 3 * g .t + 1
+
+-- the place of a controller's key in the bytes: 1, then 12
+abbrev pub keyAt : List ℕ → ℕ → Told ℕ
+keyAt s controller =
+    then (genesisOf s) λ g. unless (within 1 (g .n) controller) 12 0 (gives (g .keys + 32 * (controller - 1)))
