@@ -8,3 +8,4 @@ pub mod Every
 pub mod Answers
 pub mod Sets
 pub mod Repeated
+pub mod Formats

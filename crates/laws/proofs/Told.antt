@@ -20,3 +20,11 @@ pub unless-gives : {A : Type 0} (fine : Bool) (number place : ℕ) (t : Told A) 
     → unless fine number place t ≡ gives a → (fine ≡ true) × (t ≡ gives a)
 unless-gives true number place t a e = (refl, e)
 unless-gives false number place t a e = gives-not-refuses e
+
+pub then-assoc : {A B C : Type 0} (t : Told A) (f : A → Told B) (g : B → Told C) → then (then t f) g ≡ then t (λ a. then (f a) g)
+then-assoc (gives a) f g = refl
+then-assoc (refuses number place) f g = refl
+
+pub then-same : {A : Type 0} (t : Told A) → then t gives ≡ t
+then-same (gives a) = refl
+then-same (refuses number place) = refl

@@ -6,3 +6,4 @@ pub mod Tabulate
 pub mod Every
 pub mod Answers
 pub mod Repeated
+pub mod Bytes
