@@ -1,13 +1,13 @@
 -- A list by its elements' places: its length, its elements, and how a loop fills it from the front.
 -- Assumes nothing.
-use mathlib.Core.Path.{_≡_, refl, ap, ap₂, _∙_}
+use mathlib.Core.Path.{_≡_, refl, sym, ap, ap₂, _∙_}
 use mathlib.Core.List.{List, [], _∷_, _++_}
-use Prim.Native.Nat.{ℕ, zero, suc, _<_, suc-le-suc}
-use native.Mathlib.Nat.{not-suc-le-zero, le-of-suc-le-suc, zero-lt-suc}
+use Prim.Native.Nat.{ℕ, zero, suc, _+_, _-_, _<_, _≤_, suc-le-suc}
+use native.Mathlib.Nat.{not-suc-le-zero, le-of-suc-le-suc, zero-lt-suc, sub-zero}
 use native.Mathlib.Omega.{arith}
-use lib.ListN.{length, getD, take, set, length-set}
-use lib.Seq.{take-suc-set, take-all}
-use Rattle.laws.specs.Tabulate.{tabulate, Filled}
+use lib.ListN.{length, getD, take, drop, set, replicate, length-set, length-replicate, take-append-drop}
+use lib.Seq.{take-suc-set, take-all, length-take-le, drop-set-lt, drop-drop}
+use Rattle.laws.specs.Tabulate.{tabulate, Filled, Tailed, tailed}
 
 pub length-tabulate : {A : Type 0} (n : ℕ) (f : ℕ → A) → length (tabulate n f) ≡ n
 length-tabulate zero f = refl
@@ -40,3 +40,19 @@ pub tabulate-same : {A : Type 0} (n : ℕ) (f g : ℕ → A) → ((i : ℕ) → 
 tabulate-same zero f g h = refl
 tabulate-same (suc n) f g h =
     ap₂ (λ a rest. a ∷ rest) (h 0 (zero-lt-suc n)) (tabulate-same n (λ i. f (suc i)) (λ i. g (suc i)) (λ i l. h (suc i) (suc-le-suc l)))
+
+-- ---- a list whose last places hold a default
+module _ {A : Type 0} (size : ℕ) (d : A) where
+  pub tailed-none : Tailed size d (replicate size d) 0
+  tailed-none = (length-replicate size d, ap (λ n. replicate n d) (sym (sub-zero size)))
+
+  pub tailed-next : (l : List A) (n : ℕ) (v : A) → n < size → Tailed size d l n → Tailed size d (set l n v) (n + 1)
+  tailed-next l n v inside (long, rest) =
+      let left : size - n ≡ suc (size - (n + 1)) = omega arith in
+      ( length-set l n v ∙ long
+      , drop-set-lt (n + 1) l n v (omega arith) ∙ sym (drop-drop 1 n l) ∙ ap (drop 1) rest ∙ ap (λ m. drop 1 (replicate m d)) left)
+
+  pub tailed-is : (l : List A) (n : ℕ) → n ≤ size → Tailed size d l n → (length (take n l) ≡ n) × (l ≡ tailed size d (take n l))
+  tailed-is l n few (long, rest) =
+      let front : length (take n l) ≡ n = length-take-le n l (omega arith) in
+      (front, sym (take-append-drop n l) ∙ ap (λ r. take n l ++ r) (rest ∙ ap (λ m. replicate (size - m) d) (sym front)))

@@ -1,0 +1,46 @@
+-- What the answers of this crate tell.
+-- Assumes nothing.
+use Prim.Native.Nat.{ℕ}
+use mathlib.Core.List.{List, []}
+use lib.ListN.{length, take}
+use Rattle.laws.specs.Tabulate.{tailed}
+use Rattle.laws.specs.Told.{Told, gives, refuses, Found, found}
+use Rattle.order.specs.declared.Order.{Order}
+use Rattle.block.specs.declared.reading.NumberRead.{NumberRead}
+use Rattle.block.specs.declared.reading.NumberRead.the-variants as number
+use Rattle.block.specs.declared.reading.OrderRead.{OrderRead}
+use Rattle.block.specs.declared.reading.OrderRead.the-variants as order
+use Rattle.block.specs.declared.reading.Orders.{Orders}
+use Rattle.block.specs.declared.reading.Place.{Place}
+use Rattle.block.specs.declared.reading.Place.the-variants.{Next, Refused}
+use Rattle.block.specs.declared.reading.OrdersRead.{OrdersRead}
+
+abbrev pub toldNumber : NumberRead → Told (Found ℕ)
+toldNumber (number.Value value next) = found value next
+toldNumber (number.Refused n) = refuses n 0
+
+abbrev pub toldOrder : OrderRead → Told (Found Order)
+toldOrder (order.Order o next) = found o next
+toldOrder (order.Refused n) = refuses n 0
+
+abbrev pub noOrder : Order
+noOrder = record { display = 0; expected = 0; new = 0 }
+
+-- orders in a list of eight, with zeros behind them, and back
+abbrev pub listed : List Order → Orders
+listed l = record { count = length l; list = tailed 8 noOrder l }
+
+abbrev pub unlisted : Orders → List Order
+unlisted o = take (o .count) (o .list)
+
+-- a refusal leaves no orders
+abbrev pub ordersOf : Told (Found (List Order)) → Orders
+ordersOf (gives r) = listed (r .value)
+ordersOf (refuses number place) = listed []
+
+abbrev pub toldPlace : {A : Type 0} → A → Place → Told (Found A)
+toldPlace a (Next place) = found a place
+toldPlace a (Refused number) = refuses number 0
+
+abbrev pub toldOrders : OrdersRead → Told (Found (List Order))
+toldOrders r = toldPlace (unlisted (r .orders)) (r .place)
