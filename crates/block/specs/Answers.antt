@@ -14,6 +14,7 @@ use Rattle.block.specs.declared.reading.Orders.{Orders}
 use Rattle.block.specs.declared.reading.Place.{Place}
 use Rattle.block.specs.declared.reading.Place.the-variants.{Next, Refused}
 use Rattle.block.specs.declared.reading.OrdersRead.{OrdersRead}
+use Rattle.block.specs.declared.reading.Body.{Body}
 
 abbrev pub toldNumber : NumberRead → Told (Found ℕ)
 toldNumber (number.Value value next) = found value next
@@ -44,3 +45,21 @@ toldPlace a (Refused number) = refuses number 0
 
 abbrev pub toldOrders : OrdersRead → Told (Found (List Order))
 toldOrders r = toldPlace (unlisted (r .orders)) (r .place)
+
+abbrev pub toldBody : Body → Told (Found (List Order × ℕ))
+toldBody r = toldPlace (unlisted (r .orders), r .slot .0) (r .place)
+
+-- the values beside the place: none on a refusal
+abbrev pub partsOf : Body → Orders × ℕ
+partsOf r = (r .orders, r .slot .0)
+
+abbrev pub noBody : Orders × ℕ
+noBody = (listed [], 0)
+
+abbrev pub bodyOr : Told (Found (List Order × ℕ)) → Orders × ℕ
+bodyOr (gives r) = (listed (r .value .0), r .value .1)
+bodyOr (refuses number place) = noBody
+
+abbrev pub partsOr : Orders → Told (Found (List Order × ℕ)) → Orders × ℕ
+partsOr orders (gives r) = (orders, r .value .1)
+partsOr orders (refuses number place) = noBody

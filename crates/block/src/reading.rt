@@ -1,4 +1,5 @@
 // A block's numbers and orders, in byte order.
+use buffer::fits;
 use number::{within, Reading};
 use order::{Order, Slot};
 use refusal::{BADLY, CUT, RANGE};
@@ -10,7 +11,12 @@ ghost use Rattle.laws.specs.Told.{refuses};
 ghost use Rattle.laws.specs.Repeated.{repeated};
 ghost use Rattle.number.specs.Number.{numberAt};
 ghost use Rattle.block.specs.Block.{numberIn, orderAt, ordersAt};
-ghost use Rattle.block.specs.Answers.{toldNumber, toldOrder, toldOrders, ordersOf, listed};
+ghost use Rattle.block.specs.Answers.{toldNumber, toldOrder, toldOrders, ordersOf, listed, unlisted, toldBody, partsOf, bodyOr, partsOr, noBody};
+ghost use Rattle.block.specs.Steps.{bodyAt, stampAt};
+
+pub const LINK: usize = 32;
+
+pub const SIGNATURE: usize = 64;
 
 // A number and the place after it.
 pub enum NumberRead {
@@ -142,5 +148,61 @@ fn refused_orders(number: u32) -> OrdersRead
             count: 0,
             list: [none; 8],
         },
+    }
+}
+
+// What judging a block needs of it, and the place after it: no link and no signature is copied.
+pub struct Body {
+    pub place: Place,
+    pub orders: Orders,
+    pub slot: Slot,
+}
+
+pub fn read_body(s: &[u8], at: usize) -> Body
+    ensures answer { λ r. ⌜ toldBody r ≡ bodyAt (now (s .entry)) at ⌝ }
+    ensures body { λ r. ⌜ partsOf r ≡ bodyOr (bodyAt (now (s .entry)) at) ⌝ }
+{
+    if !fits(s.len(), at, LINK) {
+        return refused_body(CUT);
+    }
+    let read = read_orders(s, at + LINK);
+    let place = read.place;
+    let orders = read.orders;
+    match place {
+        Place::Refused(number) => refused_body(number),
+        Place::Next(at) => read_stamp(s, at, orders),
+    }
+}
+
+// The slot behind the orders, with room for the signatures behind it.
+fn read_stamp(s: &[u8], at: usize, orders: Orders) -> Body
+    ensures { λ r. ⌜ toldBody r ≡ stampAt (now (s .entry)) (unlisted orders) at ⌝ }
+    ensures { λ r. ⌜ partsOf r ≡ partsOr orders (stampAt (now (s .entry)) (unlisted orders) at) ⌝ }
+{
+    match read_number_in(s, at, 1, 256) {
+        NumberRead::Refused(number) => refused_body(number),
+        NumberRead::Value(slot, at) => {
+            if fits(s.len(), at, 2 * SIGNATURE) {
+                Body {
+                    place: Place::Next(at + 2 * SIGNATURE),
+                    orders,
+                    slot: Slot(slot),
+                }
+            } else {
+                refused_body(CUT)
+            }
+        }
+    }
+}
+
+fn refused_body(number: u32) -> Body
+    ensures { λ r. ⌜ (toldBody r ≡ refuses number 0) × (partsOf r ≡ noBody) ⌝ }
+{
+    let none = refused_orders(number);
+    let orders = none.orders;
+    Body {
+        place: Place::Refused(number),
+        orders,
+        slot: Slot(0),
     }
 }

@@ -28,3 +28,8 @@ then-assoc (refuses number place) f g = refl
 pub then-same : {A : Type 0} (t : Told A) → then t gives ≡ t
 then-same (gives a) = refl
 then-same (refuses number place) = refl
+
+pub then-unless : {A B : Type 0} (fine : Bool) (number place : ℕ) (t : Told A) (f : A → Told B)
+    → then (unless fine number place t) f ≡ unless fine number place (then t f)
+then-unless true number place t f = refl
+then-unless false number place t f = refl
