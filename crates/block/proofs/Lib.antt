@@ -1,3 +1,4 @@
 pub mod Bodies
 pub mod Ranges
 pub mod RoundTrip
+pub mod Whole

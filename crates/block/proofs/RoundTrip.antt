@@ -5,9 +5,9 @@ use mathlib.Core.Bool.{true}
 use mathlib.Core.List.{List, _++_, append-assoc}
 use Prim.Native.Nat.{ℕ, _≤_}
 use lib.ListN.{length}
-use Rattle.laws.specs.Told.{Told, gives, refuses, Found, found, then, unless}
+use Rattle.laws.specs.Told.{Told, Found, found, then}
 use Rattle.laws.specs.Every.{within}
-use Rattle.laws.specs.Bytes.{bytesAt, joined}
+use Rattle.laws.specs.Bytes.{bytesAt}
 use Rattle.laws.specs.Repeated.{repeated}
 use Rattle.laws.specs.Format.{Bytes, Each, Inverse}
 use native.Mathlib.Omega.{arith}
@@ -35,9 +35,9 @@ order-nested : Inverse
     (λ (o : Order). ((o .display ≤ largest) × (within 0 63 (o .display) ≡ true)) × ((o .expected ≤ largest) × (o .new ≤ largest)))
     orderBytes
     (λ s at.
-      then (numberIn 0 63 s at) λ d.
-      then (twoAt s (d .next)) λ e.
-      found (record { display = d .value; expected = e .value .0; new = e .value .1 }) (e .next))
+    then (numberIn 0 63 s at) λ d.
+    then (twoAt s (d .next)) λ e.
+    found (record { display = d .value; expected = e .value .0; new = e .value .1 }) (e .next))
 order-nested =
     sequence (number-in 0 63) (λ d. two-numbers) (λ d e. record { display = d; expected = e .0; new = e .1 }) (λ o. o .display)
     (λ o. (o .expected, o .new)) (λ o. refl) (λ d e fine. (refl, refl))
@@ -58,9 +58,9 @@ orders-inverse : Inverse OrdersFit ordersBytes ordersAt
 orders-inverse =
     revalid
     (reread
-      (sequence (number-in 0 8) (λ count. several order-inverse count) (λ count l. l) length (λ l. l) (λ l. refl) (λ count l fine. (fine .0, refl)))
-      ordersAt
-      (λ s at. ap (then (numberIn 0 8 s at)) (fun-ext λ count. then-same (repeated orderAt (count .value) s (count .next)))))
+    (sequence (number-in 0 8) (λ count. several order-inverse count) (λ count l. l) length (λ l. l) (λ l. refl) (λ count l fine. (fine .0, refl)))
+    ordersAt
+    (λ s at. ap (then (numberIn 0 8 s at)) (fun-ext λ count. then-same (repeated orderAt (count .value) s (count .next)))))
     OrdersFit (λ l fine. (fine .0 .1, fine .1 .1)) (λ l fine. ((in-range 8 (length l) (lit≤ tt) (fine .0), fine .0), (refl, fine .1)))
 
 -- ---- a block: the link, the orders, the slot and the two signatures
@@ -106,7 +106,8 @@ linked link e = record {
   orders = e .0;
   slot = e .1 .0;
   slotSignature = e .1 .1 .0;
-  blockSignature = e .1 .1 .1 }
+  blockSignature = e .1 .1 .1;
+}
 
 abbrev behindLink : Parts → Ordered
 behindLink p = (p .orders, (p .slot, (p .slotSignature, p .blockSignature)))
@@ -131,15 +132,21 @@ to-fits p n = record {
   slot-signature-size = n .1 .1 .1 .0 .0;
   slot-signature-bytes = n .1 .1 .1 .0 .1;
   block-signature-size = n .1 .1 .1 .1 .0;
-  block-signature-bytes = n .1 .1 .1 .1 .1 }
+  block-signature-bytes = n .1 .1 .1 .1 .1;
+}
 
 from-fits : (p : Parts) → Fits p → Nested p
 from-fits p f =
-    let slots = within-true 1 256 (p .slot) (f .slot) in
-    ( (f .link-size, f .link-bytes)
-    , ( (f .count, f .orders)
-      , ( (omega (arith, slots .1), f .slot)
-        , ((f .slot-signature-size, f .slot-signature-bytes), (f .block-signature-size, f .block-signature-bytes)))))
+    let slots = within-true 1 256 (p .slot) (f .slot) in (
+      (f .link-size, f .link-bytes),
+      (
+        (f .count, f .orders),
+        (
+          (omega (arith, slots .1), f .slot),
+          ((f .slot-signature-size, f .slot-signature-bytes), (f .block-signature-size, f .block-signature-bytes)),
+        ),
+      ),
+    )
 
 -- what is written reads back, whatever follows it, and every block that reads writes back to the same bytes
 pub block-inverse : Inverse Fits blockBytes blockAt
@@ -147,6 +154,6 @@ unfolding blockAt frontBytes blockBytes
 block-inverse =
     revalid
     (rewritten
-      (reread block-nested blockAt (λ s at. simp then-assoc))
-      blockBytes (λ p. simp append-assoc))
+    (reread block-nested blockAt (λ s at. simp then-assoc))
+    blockBytes (λ p. simp append-assoc))
     Fits to-fits from-fits

@@ -44,7 +44,8 @@ blockAt s at =
       orders = orders .value;
       slot = slot .value;
       slotSignature = first .value;
-      blockSignature = second .value })
+      blockSignature = second .value;
+    })
     (second .next)
 
 -- the same bytes, written

@@ -6,7 +6,7 @@ use lib.Dec.{leb}
 use lib.ListN.{length}
 use Rattle.laws.specs.Told.{Told, Found, found, then, unless}
 use Rattle.order.specs.declared.Order.{Order}
-use Rattle.block.specs.Block.{Parts, numberIn, blockAt}
+use Rattle.block.specs.Block.{numberIn, blockAt}
 
 -- the orders and the slot of a block
 abbrev pub bodyAt : List ℕ → ℕ → Told (Found (List Order × ℕ))

@@ -1,9 +1,12 @@
 // A block's numbers and orders, in byte order.
 use buffer::fits;
-use number::{within, Reading};
-use order::{Order, Slot};
-use refusal::{BADLY, CUT, RANGE};
-
+use number::Reading;
+use number::within;
+use order::Order;
+use order::Slot;
+use refusal::BADLY;
+use refusal::CUT;
+use refusal::RANGE;
 ghost use mathlib.Core.Path.{_≡_};
 ghost use mathlib.Core.List.{[]};
 ghost use Prim.Native.Nat.{_≤_};
@@ -137,17 +140,24 @@ fn read_listed(s: &[u8], at: usize, count: u32) -> OrdersRead
 fn refused_orders(number: u32) -> OrdersRead
     ensures { λ r. ⌜ (toldOrders r ≡ refuses number 0) × (r .orders ≡ listed []) ⌝ }
 {
+    let orders = no_orders();
+    OrdersRead {
+        place: Place::Refused(number),
+        orders,
+    }
+}
+
+pub fn no_orders() -> Orders
+    ensures { λ r. ⌜ r ≡ listed [] ⌝ }
+{
     let none = Order {
         display: 0,
         expected: 0,
         new: 0,
     };
-    OrdersRead {
-        place: Place::Refused(number),
-        orders: Orders {
-            count: 0,
-            list: [none; 8],
-        },
+    Orders {
+        count: 0,
+        list: [none; 8],
     }
 }
 
@@ -198,8 +208,7 @@ fn read_stamp(s: &[u8], at: usize, orders: Orders) -> Body
 fn refused_body(number: u32) -> Body
     ensures { λ r. ⌜ (toldBody r ≡ refuses number 0) × (partsOf r ≡ noBody) ⌝ }
 {
-    let none = refused_orders(number);
-    let orders = none.orders;
+    let orders = no_orders();
     Body {
         place: Place::Refused(number),
         orders,

@@ -1,16 +1,16 @@
 -- Formats put together: what is written and read part by part is written and read inversely if each part is.
 -- Assumes nothing.
-use mathlib.Core.Path.{_≡_, refl, sym, ap, ap₂, _∙_, subst, fun-ext}
+use mathlib.Core.Path.{_≡_, refl, sym, ap, _∙_, subst, fun-ext}
 use mathlib.Core.Bool.{Bool, true}
-use mathlib.Core.List.{List, [], _∷_, _++_, append-assoc, append-nil}
+use mathlib.Core.List.{List, [], _∷_, _++_, append-assoc}
 use Prim.Native.Nat.{ℕ, zero, suc, _+_, _≤_}
 use native.Mathlib.Omega.{arith}
-use native.Mathlib.Nat.{add-zero, add-assoc, suc-inj}
+use native.Mathlib.Nat.{add-zero}
 use lib.Dec.{leb}
 use lib.ListN.{length, take, drop, length-append, length-drop, take-append-drop}
-use lib.Seq.{take-append-le, take-append-seam, drop-append-seam, drop-drop, length-take-le, take-at}
+use lib.Seq.{drop-append-seam, drop-drop, length-take-le, take-at}
 use borrow.Author.Tests.{le-leb, leb-true}
-use Rattle.laws.specs.Told.{Told, gives, refuses, Found, found, then, unless}
+use Rattle.laws.specs.Told.{Told, gives, Found, found, then, unless}
 use Rattle.laws.specs.Format.{Bytes, Each, Inverse}
 use Rattle.laws.specs.Bytes.{part, bytesAt, joined}
 use Rattle.laws.specs.Repeated.{repeated}
@@ -37,17 +37,19 @@ module _ (size : ℕ) where
   part-only s at r bytes e =
       let (room, is) = unless-gives (leb (at + size) (length s)) 3 0 (found (part s at size) (at + size)) r e in
       let long : length (part s at size) ≡ size =
-          length-take-le size (drop at s) (rw length-drop (omega (arith, leb-true (at + size) (length s) room))) in
-      subst (Shape (λ b. (length b ≡ size) × Bytes b) (λ b. b) s at) (gives-same is)
-      ( (long, bytes-take size (drop at s) (bytes-drop at s bytes))
-      , ap (λ (n : ℕ). at + n) (sym long)
-      , sym (take-append-drop size (drop at s)) ∙ ap (λ (rest : List ℕ). part s at size ++ rest) (drop-drop size at s))
+      length-take-le size (drop at s) (rw length-drop (omega (arith, leb-true (at + size) (length s) room))) in
+      subst (Shape (λ b. (length b ≡ size) × Bytes b) (λ b. b) s at) (gives-same is) (
+        (long, bytes-take size (drop at s) (bytes-drop at s bytes)),
+        ap (λ (n : ℕ). at + n) (sym long),
+        sym (take-append-drop size (drop at s)) ∙ ap (λ (rest : List ℕ). part s at size ++ rest) (drop-drop size at s),
+      )
 
   pub fixed-bytes : Inverse (λ b. (length b ≡ size) × Bytes b) (λ b. b) (bytesAt size)
   fixed-bytes = record {
     bytes = λ b valid. valid .1;
     reads-back = λ before after b valid. part-back before after b (valid .0);
-    only-written = part-only }
+    only-written = part-only;
+  }
 
 -- ---- a format whose values pass a test
 module _ {A : Type 0} {valid : A → Type 0} {written : A → List ℕ} {readAt : List ℕ → ℕ → Told (Found A)}
@@ -58,17 +60,19 @@ module _ {A : Type 0} {valid : A → Type 0} {written : A → List ℕ} {readAt 
     bytes = λ a fine. inner .bytes a (fine .0);
     reads-back = λ before after a fine. rw (inner .reads-back before after a (fine .0), fine .1);
     only-written = λ s at r bytes e.
-      let (q, reads, passed) = then-gives (readAt s at) _ r e in
-      let (fine, is) = unless-gives (test (q .value)) number 0 (gives q) r passed in
-      let (ok, next, shape) = inner .only-written s at q bytes reads in
-      subst (Shape (λ a. valid a × (test a ≡ true)) written s at) (gives-same is) ((ok, fine), next, shape) }
+        let (q, reads, passed) = then-gives (readAt s at) _ r e in
+        let (fine, is) = unless-gives (test (q .value)) number 0 (gives q) r passed in
+        let (ok, next, shape) = inner .only-written s at q bytes reads in
+        subst (Shape (λ a. valid a × (test a ≡ true)) written s at) (gives-same is) ((ok, fine), next, shape);
+  }
 
   -- the same format, told otherwise
   pub revalid : (valid′ : A → Type 0) → ((a : A) → valid a → valid′ a) → ((a : A) → valid′ a → valid a) → Inverse valid′ written readAt
   revalid valid′ to from = record {
     bytes = λ a fine. inner .bytes a (from a fine);
     reads-back = λ before after a fine. inner .reads-back before after a (from a fine);
-    only-written = λ s at r bytes e. let (ok, next, shape) = inner .only-written s at r bytes e in (to (r .value) ok, next, shape) }
+    only-written = λ s at r bytes e. let (ok, next, shape) = inner .only-written s at r bytes e in (to (r .value) ok, next, shape);
+  }
 
   pub rewritten : (written′ : A → List ℕ) → ((a : A) → written a ≡ written′ a) → Inverse valid written′ readAt
   rewritten written′ same = subst (λ (w : A → List ℕ). Inverse valid w readAt) (fun-ext same) inner
@@ -101,8 +105,8 @@ module _ {A B C : Type 0} {validA : A → Type 0} {writtenA : A → List ℕ} {r
       let moved : before ++ (wa ++ (wb ++ after)) ≡ (before ++ wa) ++ (wb ++ after) = sym (append-assoc before wa (wb ++ after)) in
       let a-reads = first .reads-back before (wb ++ after) (left c) fineA in
       let b-reads : readB (left c) (before ++ (wa ++ (wb ++ after))) (length before + length wa)
-          ≡ found (right c) (length before + length wa + length wb) =
-          rw (moved, ← (length-append before wa)) (second (left c) .reads-back (before ++ wa) after (right c) fineB) in
+      ≡ found (right c) (length before + length wa + length wb) =
+      rw (moved, ← (length-append before wa)) (second (left c) .reads-back (before ++ wa) after (right c) fineB) in
       rw (split, a-reads, b-reads, whole c)
       (ap (found c) (omega (arith, length-append wa wb)))
 
@@ -114,17 +118,19 @@ module _ {A B C : Type 0} {validA : A → Type 0} {writtenA : A → List ℕ} {r
       let (fineB, b-next, b-shape) = second (a .value) .only-written s (a .next) b bytes b-reads in
       let (l, q) = parts (a .value) (b .value) fineB in
       subst (Shape validC writtenC s at) (gives-same is)
-      (rw (l, q)
-      ( (fineA, fineB)
-      , omega (arith, length-append (writtenA (a .value)) (writtenB (a .value) (b .value)))
-      , a-shape ∙ ap (λ (more : List ℕ). writtenA (a .value) ++ more) b-shape
-      ∙ sym (append-assoc (writtenA (a .value)) (writtenB (a .value) (b .value)) (drop (b .next) s))))
+      (rw (l, q) (
+        (fineA, fineB),
+        omega (arith, length-append (writtenA (a .value)) (writtenB (a .value) (b .value))),
+        a-shape ∙ ap (λ (more : List ℕ). writtenA (a .value) ++ more) b-shape
+            ∙ sym (append-assoc (writtenA (a .value)) (writtenB (a .value) (b .value)) (drop (b .next) s)),
+      ))
 
   pub sequence : Inverse validC writtenC readC
   sequence = record {
     bytes = λ c fine. bytes-append (writtenA (left c)) (writtenB (left c) (right c)) (first .bytes (left c) (fine .0)) (second (left c) .bytes (right c) (fine .1));
     reads-back = seq-back;
-    only-written = seq-only }
+    only-written = seq-only;
+  }
 
 -- ---- a format several times over
 module _ {A : Type 0} {valid : A → Type 0} {written : A → List ℕ} {readAt : List ℕ → ℕ → Told (Found A)}
@@ -146,7 +152,7 @@ module _ {A : Type 0} {valid : A → Type 0} {written : A → List ℕ} {readAt 
       let moved : before ++ (w ++ (ws ++ after)) ≡ (before ++ w) ++ (ws ++ after) = sym (append-assoc before w (ws ++ after)) in
       let one = inner .reads-back before (ws ++ after) a fine in
       let rest : repeated readAt (length l) (before ++ (w ++ (ws ++ after))) (length before + length w) ≡ found l (length before + length w + length ws) =
-          rw (moved, ← (length-append before w)) (each-back l (before ++ w) after others) in
+      rw (moved, ← (length-append before w)) (each-back l (before ++ w) after others) in
       rw (split, one, rest) (ap (found (a ∷ l)) (omega (arith, length-append w ws)))
 
   each-only : (times : ℕ) (s : List ℕ) (at : ℕ) (r : Found (List A)) → Bytes s → repeated readAt times s at ≡ gives r
@@ -160,15 +166,17 @@ module _ {A : Type 0} {valid : A → Type 0} {written : A → List ℕ} {readAt 
       let ((long, all), last, shapes) = each-only times s (first .next) others bytes more in
       let w = written (first .value) in
       let ws = joined written (others .value) in
-      subst (Shape (validAll (suc times)) (joined written) s at) (gives-same is)
-      ( (ap suc long, (fine, all))
-      , omega (arith, length-append w ws)
-      , shape ∙ ap (λ (rest : List ℕ). w ++ rest) shapes ∙ sym (append-assoc w ws (drop (others .next) s)))
+      subst (Shape (validAll (suc times)) (joined written) s at) (gives-same is) (
+        (ap suc long, (fine, all)),
+        omega (arith, length-append w ws),
+        shape ∙ ap (λ (rest : List ℕ). w ++ rest) shapes ∙ sym (append-assoc w ws (drop (others .next) s)),
+      )
 
   pub several : (times : ℕ) → Inverse (validAll times) (joined written) (repeated readAt times)
   several times = record {
     bytes = λ l fine. each-bytes l (fine .1);
     reads-back = λ before after l fine. subst
-      (λ (n : ℕ). repeated readAt n (before ++ (joined written l ++ after)) (length before) ≡ found l (length before + length (joined written l)))
-      (fine .0) (each-back l before after (fine .1));
-    only-written = each-only times }
+        (λ (n : ℕ). repeated readAt n (before ++ (joined written l ++ after)) (length before) ≡ found l (length before + length (joined written l)))
+        (fine .0) (each-back l before after (fine .1));
+    only-written = each-only times;
+  }

@@ -48,9 +48,10 @@ module _ {A : Type 0} (size : ℕ) (d : A) where
 
   pub tailed-next : (l : List A) (n : ℕ) (v : A) → n < size → Tailed size d l n → Tailed size d (set l n v) (n + 1)
   tailed-next l n v inside (long, rest) =
-      let left : size - n ≡ suc (size - (n + 1)) = omega arith in
-      ( length-set l n v ∙ long
-      , drop-set-lt (n + 1) l n v (omega arith) ∙ sym (drop-drop 1 n l) ∙ ap (drop 1) rest ∙ ap (λ m. drop 1 (replicate m d)) left)
+      let left : size - n ≡ suc (size - (n + 1)) = omega arith in (
+        length-set l n v ∙ long,
+        drop-set-lt (n + 1) l n v (omega arith) ∙ sym (drop-drop 1 n l) ∙ ap (drop 1) rest ∙ ap (λ m. drop 1 (replicate m d)) left,
+      )
 
   pub tailed-is : (l : List A) (n : ℕ) → n ≤ size → Tailed size d l n → (length (take n l) ≡ n) × (l ≡ tailed size d (take n l))
   tailed-is l n few (long, rest) =

@@ -1,6 +1,6 @@
 -- What is known where an answer gives something: each step before it gave something too.
 -- Assumes nothing.
-use mathlib.Core.Path.{_≡_, refl}
+use mathlib.Core.Path.{_≡_, refl, sym}
 use mathlib.Core.Bool.{Bool, true, false}
 use Prim.Native.Nat.{ℕ}
 use native.Mathlib.Omega.{arith}
@@ -33,3 +33,7 @@ pub then-unless : {A B : Type 0} (fine : Bool) (number place : ℕ) (t : Told A)
     → then (unless fine number place t) f ≡ unless fine number place (then t f)
 then-unless true number place t f = refl
 then-unless false number place t f = refl
+
+pub then-refuses : {A B : Type 0} (t : Told A) (f : A → B) (number place : ℕ) → then t (λ a. gives (f a)) ≡ refuses number place → t ≡ refuses number place
+then-refuses (gives a) f number place e = gives-not-refuses (sym e)
+then-refuses (refuses n p) f number place e = cc

@@ -1,11 +1,15 @@
+-- `block::reading::read_body` meets its contract.
+-- Assumes nothing.
 use mathlib.Core.Path.{_≡_, refl, sym, ap, _∙_}
 use mathlib.Core.Bool.{Bool, true, false}
 use mathlib.Core.List.{List}
 use Prim.Native.Nat.{ℕ, _+_}
+use native.Mathlib.Omega.{arith}
 use lib.Dec.{leb}
 use lib.ListN.{length}
 use denote.Ref.{now}
 use borrow.Author.Tests.{leb-true, not-true, not-false}
+use borrow.Author.Needs.{needs}
 use Rattle.laws.specs.Told.{Told, gives, refuses, Found, found, then, unless}
 use Rattle.order.specs.declared.Order.{Order}
 use Rattle.block.specs.declared.reading.Orders.{Orders}
@@ -13,18 +17,9 @@ use Rattle.block.specs.Block.{ordersAt, numberIn}
 use Rattle.block.specs.Answers.{listed, unlisted, ordersOf, bodyOr, partsOr}
 use Rattle.block.specs.Steps.{bodyAt, stampAt}
 use Rattle.block.proofs.Bodies.{body-is}
-use native.Mathlib.Omega.{arith}
-use borrow.Author.Needs.{needs}
 use Rattle.block.proofs.reading.read_body.Statement.{statement}
 use Rattle.block.proofs.reading.read_body.Tie as tie
-use Rattle.block.proofs.reading.read_body.Reads as reads
-use Rattle.block.proofs.reading.read_body.Lts as lts
-use Rattle.block.proofs.reading.read_orders.Reads as read-orders-reads
-use Rattle.block.proofs.reading.read_stamp.Reads as read-stamp-reads
-use Rattle.block.proofs.reading.refused_body.Reads as refused-body-reads
-use Rattle.buffer.proofs.fits.Reads as fits-reads
 
--- src/reading.rt:165:9
 room : (c : tie.Else1)
     → leb (c .before .before .before .args .at + 32) (length (now (c .before .before .before .args .s))) ≡ true
 room c = sym (c .before .fits2 .ensures) ∙ not-false _ (c .if1 .left)
@@ -48,11 +43,9 @@ same-parts orders l s at e = by-slot (numberIn 1 256 s at)
 fits-requires : tie.Need-fits-requires
 fits-requires c κs = search needs
 
--- src/reading.rt:166:9
 refused-body-requires : tie.Need-refused-body-requires
 refused-body-requires c κs = search needs
 
--- src/reading.rt:166:9
 returns : tie.Need-returns
 returns c =
     let fits = c .before .before in
@@ -61,31 +54,24 @@ returns c =
     let is : bodyAt (now (a .s)) (a .at) ≡ refuses 3 0 = body-is (now (a .s)) (a .at) ∙ simp cut in
     (c .refused-body .ensures .0 ∙ sym is, c .refused-body .ensures .1 ∙ ap bodyOr (sym is))
 
--- src/reading.rt:168:31
 add-read-orders : tie.Need-add-read-orders
 add-read-orders c = let a = c .before .before .before .args in omega (arith, leb-true (a .at + 32) (length (now (a .s))) (room c))
 
--- src/reading.rt:168:9
 read-orders-requires : tie.Need-read-orders-requires
 read-orders-requires c κs = search needs
 
--- src/reading.rt:172:24
 enum-known-place : tie.Need-enum-known-place
 enum-known-place c = search needs
 
--- src/reading.rt:172:35
 refused-body-requires-2 : tie.Need-refused-body-requires-2
 refused-body-requires-2 c κs = search needs
 
--- src/reading.rt:173:21
 enum-known-place-2 : tie.Need-enum-known-place-2
 enum-known-place-2 c = search needs
 
--- src/reading.rt:173:28
 read-stamp-requires : tie.Need-read-stamp-requires
 read-stamp-requires c κs = search needs
 
--- src/reading.rt:161:1
 returns-2 : tie.Need-returns-2
 returns-2 c =
     let place = c .before .before in
@@ -95,7 +81,6 @@ returns-2 c =
     let is : bodyAt (now (a .s)) (a .at) ≡ refuses (place .place .given .0 .0) 0 = body-is (now (a .s)) (a .at) ∙ simp (room (read .before)) (rw told) in
     (c .refused-body2 .ensures .0 ∙ sym is, c .refused-body2 .ensures .1 ∙ ap bodyOr (sym is))
 
--- src/reading.rt:161:1
 returns-3 : tie.Need-returns-3
 returns-3 c =
     let place = c .before .before in
@@ -106,9 +91,10 @@ returns-3 c =
     let next = place .place2 .given .0 .0 in
     let told : ordersAt s (a .at + 32) ≡ found (unlisted orders) next = sym (rw (place .place2 .given .1) at (read .read-orders .ensures .0)) in
     let list : orders ≡ listed (unlisted orders) = read .read-orders .ensures .1 ∙ ap ordersOf told in
-    let is : bodyAt s (a .at) ≡ stampAt s (unlisted orders) next = body-is s (a .at) ∙ simp (room (read .before)) (rw told) in
-    ( c .read-stamp .ensures .0 ∙ sym is
-    , c .read-stamp .ensures .1 ∙ same-parts orders (unlisted orders) s next list ∙ ap bodyOr (sym is))
+    let is : bodyAt s (a .at) ≡ stampAt s (unlisted orders) next = body-is s (a .at) ∙ simp (room (read .before)) (rw told) in (
+      c .read-stamp .ensures .0 ∙ sym is,
+      c .read-stamp .ensures .1 ∙ same-parts orders (unlisted orders) s next list ∙ ap bodyOr (sym is),
+    )
 
 pub read-body-spec : {M : Type 1} → statement M
 read-body-spec =

@@ -1,23 +1,19 @@
-use mathlib.Core.Path.{_≡_, refl, sym, ap, ap₂, _∙_, subst}
-use Prim.Native.Nat.{ℕ, _+_, _-_, _≤_}
-use lib.Dec.{lit≤}
-use lib.ListN.{length, take, drop, replicate, length-set}
-use lib.Seq.{take-all}
+-- `block::reading::read_listed` meets its contract.
+-- Assumes nothing.
+use mathlib.Core.Path.{_≡_, sym, ap, ap₂, _∙_, subst}
+use Prim.Native.Nat.{_-_, _≤_}
+use native.Mathlib.Omega.{arith}
+use lib.ListN.{replicate}
 use denote.Ref.{now}
+use borrow.Author.Needs.{needs}
 use Rattle.laws.specs.Told.{found}
 use Rattle.laws.specs.Tabulate.{Tailed}
 use Rattle.laws.proofs.Tabulate.{tailed-none, tailed-next, tailed-is}
 use Rattle.laws.proofs.Repeated.{Into, into-none, into-next, into-refused, into-all}
 use Rattle.block.specs.Block.{orderAt}
-use Rattle.block.specs.Answers.{noOrder, listed, ordersOf}
-use native.Mathlib.Omega.{arith}
-use borrow.Author.Needs.{needs}
+use Rattle.block.specs.Answers.{noOrder, ordersOf}
 use Rattle.block.proofs.reading.read_listed.Statement.{statement}
 use Rattle.block.proofs.reading.read_listed.Tie as tie
-use Rattle.block.proofs.reading.read_listed.Reads as reads
-use Rattle.block.proofs.reading.read_listed.Lts as lts
-use Rattle.block.proofs.reading.read_order.Reads as read-order-reads
-use Rattle.block.proofs.reading.refused_orders.Reads as refused-orders-reads
 
 abbrev Inv-loop : tie.InvT-loop
 Inv-loop s at count list₀ place₀ i₀ list place i =
@@ -26,25 +22,20 @@ Inv-loop s at count list₀ place₀ i₀ list place i =
 abbrev μ-loop : tie.MeasureT-loop
 μ-loop s at count list₀ place₀ i₀ list place i = count - i
 
--- src/reading.rt:115:5
 loop-holds : tie.Need-loop-holds Inv-loop μ-loop
 loop-holds c =
     let a = c .before .args in
     (omega arith, tailed-none 8 noOrder, into-none orderAt (now (a .s)) (a .at) (a .count) (replicate 8 noOrder))
 
--- src/reading.rt:116:15
 read-order-requires : tie.Need-read-order-requires Inv-loop μ-loop
 read-order-requires c κs = search needs
 
--- src/reading.rt:117:32
 enum-known-number : tie.Need-enum-known-number Inv-loop μ-loop
 enum-known-number c = search needs
 
--- src/reading.rt:117:43
 refused-orders-requires : tie.Need-refused-orders-requires Inv-loop μ-loop
 refused-orders-requires c κs = search needs
 
--- src/reading.rt:117:43
 returns : tie.Need-returns Inv-loop μ-loop
 returns c =
     let number = c .before .before in
@@ -53,30 +44,24 @@ returns c =
     let a = read .before .before .before .before .args in
     let told = sym (rw (number .number .given .1) at (read .read-order .ensures)) in
     let all = into-refused orderAt (now (a .s)) (a .at) (a .count) (loop .list) (loop .i) (loop .place) (loop .inv .2) (number .number .given .0 .0) 0
-        (read .before .loop-test .taken) told in
+    (read .before .loop-test .taken) told in
     (c .refused-orders .ensures .0 ∙ sym all, c .refused-orders .ensures .1 ∙ ap ordersOf (sym all))
 
--- src/reading.rt:118:30
 enum-known-order : tie.Need-enum-known-order Inv-loop μ-loop
 enum-known-order c = search needs
 
--- src/reading.rt:119:17
 mul-list : tie.Need-mul-list Inv-loop μ-loop
 mul-list c = search needs
 
--- src/reading.rt:119:17
 array-set-from-list : tie.Need-array-set-from-list Inv-loop μ-loop
 array-set-from-list c = search needs
 
--- src/reading.rt:123:9
 add-i : tie.Need-add-i Inv-loop μ-loop
 add-i c = search needs
 
--- src/reading.rt:115:5
 loop-less : tie.Need-loop-less Inv-loop μ-loop
 loop-less c = search needs
 
--- src/reading.rt:115:5
 loop-again : tie.Need-loop-again Inv-loop μ-loop
 loop-again c =
     let order = c .before in
@@ -87,13 +72,13 @@ loop-again c =
     let few = start .pre in
     let value = order .order .given .0 .0 in
     let next = order .order .given .0 .1 .0 in
-    let told : orderAt (now (a .s)) (loop .place) ≡ found value next = sym (rw (order .order .given .1) at (read .read-order .ensures)) in
-    ( omega arith
-    , tailed-next 8 noOrder (loop .list) (loop .i) value (omega arith) (loop .inv .1)
-    , into-next orderAt (now (a .s)) (a .at) (a .count) (loop .list) (loop .i) (loop .place) (loop .inv .2) value next
-    (read .before .loop-test .taken) (omega (arith, loop .inv .1 .0)) told)
+    let told : orderAt (now (a .s)) (loop .place) ≡ found value next = sym (rw (order .order .given .1) at (read .read-order .ensures)) in (
+      omega arith,
+      tailed-next 8 noOrder (loop .list) (loop .i) value (omega arith) (loop .inv .1),
+      into-next orderAt (now (a .s)) (a .at) (a .count) (loop .list) (loop .i) (loop .place) (loop .inv .2) value next
+          (read .before .loop-test .taken) (omega (arith, loop .inv .1 .0)) told,
+    )
 
--- src/reading.rt:102:1
 returns-2 : tie.Need-returns-2 Inv-loop μ-loop
 returns-2 c =
     let loop = c .before .loop in

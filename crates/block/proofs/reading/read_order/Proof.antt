@@ -1,54 +1,41 @@
+-- `block::reading::read_order` meets its contract.
+-- Assumes nothing.
 use mathlib.Core.Path.{_≡_, sym}
 use denote.Ref.{now}
+use borrow.Author.Needs.{needs}
 use Rattle.laws.specs.Told.{found}
 use Rattle.number.specs.Number.{numberAt}
 use Rattle.block.specs.Block.{numberIn}
-use native.Mathlib.Omega.{arith}
-use borrow.Author.Needs.{needs}
 use Rattle.block.proofs.reading.read_order.Statement.{statement}
 use Rattle.block.proofs.reading.read_order.Tie as tie
-use Rattle.block.proofs.reading.read_order.Reads as reads
-use Rattle.block.proofs.reading.read_order.Lts as lts
-use Rattle.block.proofs.reading.read_number.Reads as read-number-reads
-use Rattle.block.proofs.reading.read_number_in.Reads as read-number-in-reads
 
--- src/reading.rt:51:11
 read-number-in-requires : tie.Need-read-number-in-requires
 read-number-in-requires c κs = search needs
 
--- src/reading.rt:52:29
 enum-known-number : tie.Need-enum-known-number
 enum-known-number c = search needs
 
--- src/reading.rt:53:27
 enum-known-display : tie.Need-enum-known-display
 enum-known-display c = search needs
 
--- src/reading.rt:53:49
 read-number-requires : tie.Need-read-number-requires
 read-number-requires c κs = search needs
 
--- src/reading.rt:54:33
 enum-known-number-2 : tie.Need-enum-known-number-2
 enum-known-number-2 c = search needs
 
--- src/reading.rt:55:31
 enum-known-expected : tie.Need-enum-known-expected
 enum-known-expected c = search needs
 
--- src/reading.rt:55:54
 read-number-requires-2 : tie.Need-read-number-requires-2
 read-number-requires-2 c κs = search needs
 
--- src/reading.rt:56:37
 enum-known-number-3 : tie.Need-enum-known-number-3
 enum-known-number-3 c = search needs
 
--- src/reading.rt:57:35
 enum-known-new : tie.Need-enum-known-new
 enum-known-new c = search needs
 
--- src/reading.rt:48:1
 display-is : (c : tie.After-display)
     → numberIn 0 63 (now (c .before .before .before .before .args .s)) (c .before .before .before .before .args .at)
     ≡ found (c .display .given .0 .0) (c .display .given .0 .1 .0)
@@ -64,14 +51,12 @@ returns c =
     let told = rw (c .before .number .given .1) at (c .before .before .before .read-number-in .ensures) in
     rw (sym told)
 
--- src/reading.rt:48:1
 returns-2 : tie.Need-returns-2
 returns-2 c =
     let number = c .before in
     let told = rw (number .number2 .given .1) at (number .before .before .read-number .ensures) in
     rw (display-is (number .before .before .before .before), sym told)
 
--- src/reading.rt:48:1
 returns-3 : tie.Need-returns-3
 returns-3 c =
     let number = c .before in
@@ -79,7 +64,6 @@ returns-3 c =
     let told = rw (number .number3 .given .1) at (number .before .before .read-number2 .ensures) in
     rw (display-is (expected .before .before .before .before), expected-is expected, sym told)
 
--- src/reading.rt:48:1
 returns-4 : tie.Need-returns-4
 returns-4 c =
     let new = c .before in

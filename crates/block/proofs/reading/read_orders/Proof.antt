@@ -1,35 +1,26 @@
+-- `block::reading::read_orders` meets its contract.
+-- Assumes nothing.
 use mathlib.Core.Path.{_≡_, sym, _∙_}
 use denote.Ref.{now}
+use borrow.Author.Needs.{needs}
 use Rattle.laws.specs.Told.{found}
 use Rattle.block.specs.Block.{numberIn}
 use Rattle.block.proofs.Ranges.{in-range}
-use native.Mathlib.Omega.{arith}
-use borrow.Author.Needs.{needs}
 use Rattle.block.proofs.reading.read_orders.Statement.{statement}
 use Rattle.block.proofs.reading.read_orders.Tie as tie
-use Rattle.block.proofs.reading.read_orders.Reads as reads
-use Rattle.block.proofs.reading.read_orders.Lts as lts
-use Rattle.block.proofs.reading.read_listed.Reads as read-listed-reads
-use Rattle.block.proofs.reading.read_number_in.Reads as read-number-in-reads
-use Rattle.block.proofs.reading.refused_orders.Reads as refused-orders-reads
 
--- src/reading.rt:96:11
 read-number-in-requires : tie.Need-read-number-in-requires
 read-number-in-requires c κs = search needs
 
--- src/reading.rt:97:29
 enum-known-number : tie.Need-enum-known-number
 enum-known-number c = search needs
 
--- src/reading.rt:97:40
 refused-orders-requires : tie.Need-refused-orders-requires
 refused-orders-requires c κs = search needs
 
--- src/reading.rt:98:27
 enum-known-count : tie.Need-enum-known-count
 enum-known-count c = search needs
 
--- src/reading.rt:98:41
 count-is : (c : tie.After-count)
     → numberIn 0 8 (now (c .before .before .before .before .args .s)) (c .before .before .before .before .args .at)
     ≡ found (c .count .given .0 .0) (c .count .given .0 .1 .0)
@@ -38,21 +29,21 @@ count-is c = sym (rw (c .count .given .1) at (c .before .before .read-number-in 
 read-listed-requires : tie.Need-read-listed-requires
 read-listed-requires c κs = in-range 0 8 _ _ _ (count-is (c .before)) .1
 
--- src/reading.rt:92:1
 returns : tie.Need-returns
 returns c =
     let number = c .before .before in
     let read = number .before .before in
-    let told = sym (rw (number .number .given .1) at (read .read-number-in .ensures)) in
-    ( c .refused-orders .ensures .0 ∙ rw told
-    , c .refused-orders .ensures .1 ∙ rw told)
+    let told = sym (rw (number .number .given .1) at (read .read-number-in .ensures)) in (
+      c .refused-orders .ensures .0 ∙ rw told,
+      c .refused-orders .ensures .1 ∙ rw told,
+    )
 
--- src/reading.rt:92:1
 returns-2 : tie.Need-returns-2
 returns-2 c =
-    let is = count-is (c .before .before) in
-    ( c .read-listed .ensures .0 ∙ rw is
-    , c .read-listed .ensures .1 ∙ rw is)
+    let is = count-is (c .before .before) in (
+      c .read-listed .ensures .0 ∙ rw is,
+      c .read-listed .ensures .1 ∙ rw is,
+    )
 
 pub read-orders-spec : {M : Type 1} → statement M
 read-orders-spec =
