@@ -2,3 +2,4 @@ pub mod Bodies
 pub mod Ranges
 pub mod RoundTrip
 pub mod Whole
+pub mod Lists

@@ -55,12 +55,12 @@ orderBytes o = written (o .display) ++ (written (o .expected) ++ written (o .new
 abbrev pub ordersBytes : List Order → List ℕ
 ordersBytes orders = written (length orders) ++ joined orderBytes orders
 
--- a block without its last 64 bytes
-unfoldable pub frontBytes : Parts → List ℕ
-frontBytes p = p .link ++ (ordersBytes (p .orders) ++ (written (p .slot) ++ p .slotSignature))
+-- a block without its last 64 bytes: draft, block text and append share it
+unfoldable pub frontBytes : (link : List ℕ) (orders : List Order) (slot : ℕ) (slotSignature : List ℕ) → List ℕ
+frontBytes link orders slot slotSignature = link ++ (ordersBytes orders ++ (written slot ++ slotSignature))
 
 unfoldable pub blockBytes : Parts → List ℕ
-blockBytes p = frontBytes p ++ p .blockSignature
+blockBytes p = frontBytes (p .link) (p .orders) (p .slot) (p .slotSignature) ++ p .blockSignature
 
 -- parts that are a block's
 abbrev pub OrderFits : Order → Type 0

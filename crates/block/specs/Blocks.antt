@@ -1,12 +1,22 @@
 -- A block as the code holds it, and its parts.
 -- Assumes nothing.
-use mathlib.Core.List.{[]}
-use lib.ListN.{replicate}
+use Prim.Native.Nat.{ℕ, _+_}
+use mathlib.Core.Bool.{Bool}
+use mathlib.Core.List.{List, [], _∷_, _++_}
+use lib.Dec.{leb}
+use lib.ListN.{length, replicate}
+use Rattle.laws.specs.Every.{both, within, every}
 use Rattle.laws.specs.Told.{Told, gives, refuses, Found}
-use Rattle.block.specs.Block.{Parts}
+use Rattle.number.specs.Number.{written}
+use Rattle.order.specs.declared.Order.{Order}
+use Rattle.block.specs.Block.{Parts, ordersBytes, frontBytes}
 use Rattle.block.specs.Answers.{listed, unlisted, toldPlace}
+use Rattle.block.specs.declared.Front.{Front}
 use Rattle.block.specs.declared.Block.{Block}
 use Rattle.block.specs.declared.BlockRead.{BlockRead}
+use Rattle.block.specs.declared.reading.Orders.{Orders}
+use Rattle.block.specs.declared.reading.Place.{Place}
+use Rattle.block.specs.declared.reading.Place.the-variants.{Next, Refused}
 
 abbrev pub partsIn : Block → Parts
 partsIn b = record {
@@ -38,3 +48,28 @@ blockOf (refuses number place) = blockIn noParts
 
 abbrev pub toldBlock : BlockRead → Told (Found Parts)
 toldBlock r = toldPlace (partsIn (r .block)) (r .place)
+
+-- what writing judges: "order count, display or slot out of its range"
+abbrev pub knownDisplay : Order → Bool
+knownDisplay o = within 0 63 (o .display)
+
+abbrev pub inRange : Orders → ℕ → Bool
+inRange orders slot = both (leb (orders .count) 8) (both (every knownDisplay (unlisted orders)) (within 1 256 slot))
+
+abbrev pub frontFits : Front → Bool
+frontFits f = inRange (f .orders) (f .slot .0)
+
+abbrev pub frontOf : Front → List ℕ
+frontOf f = frontBytes (f .link) (unlisted (f .orders)) (f .slot .0) (f .«slot_signature»)
+
+-- how many bytes a block takes
+abbrev pub blockLength : List Order → ℕ → ℕ
+blockLength orders slot = 32 + (length (ordersBytes orders) + (length (written slot) + 128))
+
+abbrev pub toldNext : Place → Told ℕ
+toldNext (Next place) = gives place
+toldNext (Refused number) = refuses number 0
+
+-- 01: "the four letters `slot` followed by the slot as a number"
+abbrev pub slotText : ℕ → List ℕ
+slotText slot = (115 ∷ 108 ∷ 111 ∷ 116 ∷ []) ++ written slot

@@ -1,5 +1,6 @@
 // One block (01, "Orders, blocks, chains"): read at a place of a slice, written into a lent buffer, and the text of its slot that a host signs.
 mod reading;
+mod writing;
 
 use order::Slot;
 pub use reading::Body;
@@ -8,6 +9,10 @@ pub use reading::Orders;
 pub use reading::Place;
 use reading::SIGNATURE;
 pub use reading::read_body;
+pub use writing::length;
+pub use writing::slot_text;
+pub use writing::write;
+pub use writing::write_front;
 ghost use mathlib.Core.Path.{_≡_};
 ghost use Prim.Native.Nat.{_+_, _≤_};
 ghost use lib.ListN.{length};

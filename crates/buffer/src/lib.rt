@@ -5,7 +5,7 @@ ghost use lib.Dec.{leb};
 ghost use lib.ListN.{length};
 ghost use lib.Seq.{sets};
 ghost use Rattle.laws.specs.Placed.{placed, placing};
-ghost use Rattle.buffer.specs.Writing.{told};
+ghost use Rattle.buffer.specs.Writing.{told, nextOr};
 
 // What writing answers.
 pub enum Writing {
@@ -42,5 +42,15 @@ fn copy(out: &mut [u8], at: usize, bytes: &[u8])
     while i < bytes.len() {
         out[at + i] = bytes[i];
         i += 1;
+    }
+}
+
+// The place after what was written, or the place where it began if nothing was.
+pub fn after(writing: Writing, at: usize) -> usize
+    ensures { λ r. ⌜ r ≡ nextOr at (told writing) ⌝ }
+{
+    match writing {
+        Writing::Next(next) => next,
+        Writing::Short => at,
     }
 }

@@ -7,7 +7,7 @@ use Prim.Native.Nat.{ℕ, zero, suc, _<_, _≤_}
 use native.Mathlib.Nat.{not-suc-le-zero, le-of-suc-le-suc}
 use native.Mathlib.Omega.{arith}
 use lib.Dec.{T, leb, eqb, eqb→eq}
-use borrow.Author.Tests.{leb-true}
+use borrow.Author.Tests.{le-leb, lt-leb, leb-true}
 use lib.ListN.{length, getD}
 use Rattle.laws.specs.Every.{both, within, every, same}
 
@@ -31,9 +31,19 @@ same-is (x ∷ xs) [] t = absurd t
 same-is (x ∷ xs) (y ∷ ys) t =
     ap₂ (λ a rest. a ∷ rest) (eqb→eq x y (both-left (eqb x y) (same xs ys) t)) (same-is xs ys (both-right (eqb x y) (same xs ys) t))
 
+pub both-false : (a : Bool) → both a false ≡ false
+both-false true = refl
+both-false false = refl
+
 pub both-true : (a b : Bool) → both a b ≡ true → (a ≡ true) × (b ≡ true)
 both-true true b e = (refl, e)
 both-true false b e = let z : _≡_ {A = ℕ} 0 1 = cc in absurd (omega arith)
 
 pub within-true : (least most n : ℕ) → within least most n ≡ true → (least ≤ n) × (n ≤ most)
 within-true least most n e = let (low, high) = both-true (leb least n) (leb n most) e in (leb-true _ _ low, leb-true _ _ high)
+
+pub within-here : (least most n : ℕ) → least ≤ n → n ≤ most → within least most n ≡ true
+within-here least most n low high = rw (le-leb least n low) (le-leb n most high)
+
+pub within-above : (least most n : ℕ) → most < n → within least most n ≡ false
+within-above least most n high = rw (lt-leb n most high) (both-false (leb least n))

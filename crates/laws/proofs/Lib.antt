@@ -9,3 +9,4 @@ pub mod Answers
 pub mod Sets
 pub mod Repeated
 pub mod Formats
+pub mod Taken

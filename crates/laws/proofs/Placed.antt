@@ -1,17 +1,19 @@
 -- The two cases of writing bytes at a place of a lent buffer.
 -- Assumes nothing.
-use mathlib.Core.Path.{_≡_, sym, ap, _∙_}
+use mathlib.Core.Path.{_≡_, refl, sym, ap, _∙_, subst}
+use mathlib.Core.Bool.{Bool, true, false}
 use mathlib.Core.List.{List, [], _++_, append-nil}
 use Prim.Native.Nat.{ℕ, _+_, _-_, _<_, _≤_}
 use native.Mathlib.Nat.{add-sub-cancel-left}
 use lib.Dec.{leb}
 use native.Mathlib.Omega.{arith}
-use lib.ListN.{length, take, drop, replicate, drop-of-length-le, length-drop, length-replicate}
-use lib.Seq.{sets, sets-eq, length-take-le}
-use borrow.Author.Tests.{le-leb, lt-leb, leb-true}
+use lib.ListN.{length, take, drop, replicate, drop-of-length-le, length-drop, length-append, length-replicate}
+use lib.Seq.{sets, sets-eq, length-sets, length-take-le}
+use borrow.Author.Tests.{le-leb, lt-leb, leb-true, leb-false}
 use Rattle.laws.specs.Told.{gives, refuses}
-use Rattle.laws.specs.Placed.{placed, placing}
+use Rattle.laws.specs.Placed.{placed, placing, placedIf, placingIf, Room, Wrote}
 use Rattle.laws.specs.Bytes.{part}
+use Rattle.laws.proofs.Sets.{sets-join}
 use Rattle.laws.proofs.Told.{gives-same, unless-gives}
 
 module _ (out : List ℕ) (at : ℕ) (bytes : List ℕ) where
@@ -42,3 +44,55 @@ copied-part s at size room =
     let long : length (part s at size) ≡ length {A = ℕ} (replicate size 0) =
     length-take-le size (drop at s) (rw length-drop (omega arith)) ∙ sym (length-replicate {A = ℕ} size 0) in
     ap (λ (n : ℕ). placing (replicate size 0) 0 (take n (drop at s))) (add-sub-cancel-left at size) ∙ filling (replicate size 0) (part s at size) long
+
+-- values that are refused, a buffer that is too short, and bytes that were written
+module _ (fine : Bool) (number : ℕ) (out : List ℕ) (at : ℕ) (bytes : List ℕ) where
+  pub judged-refused : fine ≡ false → (refuses number 0 ≡ placedIf fine number out at bytes) × (out ≡ placingIf fine out at bytes)
+  judged-refused e = rw e (refl, refl)
+
+  pub judged-short : fine ≡ true → length out < at + length bytes
+      → (refuses 15 0 ≡ placedIf fine number out at bytes) × (out ≡ placingIf fine out at bytes)
+  judged-short e short = rw e (too-short out at bytes short)
+
+  pub judged-wrote : (next : ℕ) (later : List ℕ) → fine ≡ true → Room out at bytes → Wrote out at bytes next later
+      → (gives next ≡ placedIf fine number out at bytes) × (later ≡ placingIf fine out at bytes)
+  judged-wrote next later e room wrote = rw (e, wrote .place, wrote .buffer) (with-room out at bytes (room .enough))
+
+module _ {out : List ℕ} {at : ℕ} {xs ys : List ℕ} where
+  pub room-same : xs ≡ ys → Room out at xs → Room out at ys
+  room-same e room = subst (λ l. Room out at l) e room
+
+  pub wrote-same : {next : ℕ} {later : List ℕ} → xs ≡ ys → Wrote out at xs next later → Wrote out at ys next later
+  wrote-same {next} {later} e wrote = subst (λ l. Wrote out at l next later) e wrote
+
+-- what a test of the size says
+module _ (out : List ℕ) (at size : ℕ) (bytes : List ℕ) (is : size ≡ length bytes) where
+  pub enough-room : leb (at + size) (length out) ≡ true → Room out at bytes
+  enough-room e = record { enough = omega (arith, leb-true (at + size) (length out) e) }
+
+  pub too-little : leb (at + size) (length out) ≡ false → length out < at + length bytes
+  too-little e = omega (arith, leb-false (at + size) (length out) e)
+
+-- writing changes no length
+pub wrote-length : {out : List ℕ} {at next : ℕ} {bytes later : List ℕ} → Wrote out at bytes next later → length later ≡ length out
+wrote-length {out} {at} {next} {bytes} wrote = ap length (wrote .buffer) ∙ length-sets out at bytes
+
+-- pieces written one behind the other
+pub wrote-none : {out : List ℕ} {at : ℕ} → Wrote out at [] at out
+wrote-none = record { place = omega arith; buffer = refl }
+
+module _ (xs ys : List ℕ) {out : List ℕ} {at : ℕ} where
+  pub room-first : Room out at (xs ++ ys) → Room out at xs
+  room-first room = record { enough = omega (arith, room .enough, length-append xs ys) }
+
+  pub room-then : {middle : ℕ} {between : List ℕ} → Wrote out at xs middle between → Room out at (xs ++ ys) → Room between middle ys
+  room-then first room = record {
+    enough = omega (arith, room .enough, length-append xs ys, first .place, ap length (first .buffer), length-sets out at xs);
+  }
+
+  pub wrote-then : {middle next : ℕ} {between later : List ℕ} → Wrote out at xs middle between → Wrote between middle ys next later
+      → Wrote out at (xs ++ ys) next later
+  wrote-then first second = record {
+    place = omega (arith, first .place, second .place, length-append xs ys);
+    buffer = second .buffer ∙ rw (first .place, first .buffer) (sets-join out at xs ys);
+  }

@@ -2,7 +2,7 @@
 -- Assumes nothing.
 use mathlib.Core.Path.{_≡_, ap, _∙_}
 use mathlib.Core.List.{List, [], _∷_}
-use Prim.Native.Nat.{ℕ, zero, suc, _+_, _/_, _%_, _^_, _<_, _≤_}
+use Prim.Native.Nat.{ℕ, zero, suc, _+_, _/_, _%_, _^_, _<_, _≤_, zero-le}
 use native.Mathlib.Omega.{arith}
 use native.Mathlib.Nat.{pow-suc, div-lt-iff-lt-mul, le-div-iff-mul-le, pow-le-pow-right, le-trans, lt-of-lt-of-le}
 use lib.Dec.{lit<}
@@ -65,3 +65,14 @@ sets-last out at v h = rw (written-last v h)
 pub sets-more : (out : List ℕ) (at v : ℕ) → 128 ≤ v → v < 128 ^ 5
     → sets out at (written v) ≡ sets (set out at (128 + v % 128)) (at + 1) (written (v / 128))
 sets-more out at v large h = rw (written-more v large h, add-one)
+
+groups-few : (k v : ℕ) → length (groups k v) ≤ k
+unfolding groups
+groups-few zero v = zero-le
+groups-few (suc k) v =
+    lt-cases v 128 (λ small. simp (lt-ltb _ _ small) (omega arith))
+    (λ large. simp (le-ltb _ _ large) (omega (arith, groups-few k (v / 128))))
+
+pub at-most-five : (v : ℕ) → length (written v) ≤ 5
+unfolding written
+at-most-five v = groups-few 5 v
