@@ -1,6 +1,17 @@
 //! The rules of 01 once more, in plain Rust. Nothing here is taken from the proved code or its specifications.
+pub mod adopt;
+pub mod block;
+pub mod chain;
+pub mod genesis;
+pub mod issue;
+pub mod lent;
 pub mod number;
+pub mod order;
+pub mod pool;
+pub mod report;
+pub mod samples;
 pub mod sha256;
+pub mod walk;
 
 /// A refusal: its number and its place.
 #[derive(Debug, Clone, Copy, PartialEq, Eq)]

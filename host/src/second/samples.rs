@@ -1,0 +1,542 @@
+//! Material for tests: tables, chains with proper links, faults to put into them, and one case with the arguments of every call.
+use super::block::Block;
+use super::chain;
+use super::genesis::Genesis;
+use super::order::{Order, Slot};
+use super::pool::{Entry, Pool, ROOM};
+use super::{refusal, sha256, Refusal};
+
+/// The clock reading of the samples.
+pub const NOW: Slot = Slot(20);
+
+/// The stamps of the sample blocks.
+pub const STAMPS: [u32; 5] = [1, 3, 4, 6, 9];
+
+/// How many bytes each sample block takes.
+pub const BLOCK: usize = 165;
+
+/// What a lent buffer holds where nobody has written.
+pub const FILLER: u8 = 0xEE;
+
+/// Clock readings out of range; none may wrap into it.
+pub const BAD_NOWS: [Slot; 5] = [Slot(0), Slot(257), Slot(512), Slot(65_792), Slot(u32::MAX)];
+
+/// A table in which display 2 starts at release 40 and every other at 0. No two keys are equal.
+pub fn genesis(n: u32, t: u32, u: u32) -> Genesis {
+    let mut releases = [0; 64];
+    releases[2] = 40;
+    Genesis {
+        n,
+        t,
+        u,
+        releases,
+        keys: (1..=n).map(|controller| [controller as u8; 32]).collect(),
+    }
+}
+
+/// The bytes of the samples' table: n = 6, t = 1, u = 5. Slot 20 is controller 2's turn.
+pub fn table() -> Vec<u8> {
+    genesis(6, 1, 5).bytes()
+}
+
+/// 01's worked genesis: "n = 1, t = 0, u = 1, display 0 at release 7, the others 0, a key of zeros".
+pub fn worked_genesis() -> Genesis {
+    let mut releases = [0; 64];
+    releases[0] = 7;
+    Genesis {
+        n: 1,
+        t: 0,
+        u: 1,
+        releases,
+        keys: vec![[0; 32]],
+    }
+}
+
+/// Genesis bytes that break a rule, and which.
+pub fn bad_geneses() -> Vec<(String, Vec<u8>)> {
+    let mut bad: Vec<(String, Vec<u8>)> = [
+        (0, 0, 1),
+        (32, 0, 1),
+        (257, 0, 1),
+        (u32::MAX, 0, 1),
+        (5, 1, 1),
+        (30, 6, 1),
+        (31, 7, 1),
+        (6, 257, 1),
+        (1, 858_993_459, 1),
+        (31, 858_993_460, 1),
+        (31, u32::MAX, 1),
+        (6, 1, 0),
+        (6, 1, 65),
+        (6, 1, 320),
+        (6, 1, u32::MAX),
+    ]
+    .map(|(n, t, u)| {
+        // as many keys as a reader would want who keeps n in one byte
+        let mut table = genesis(n & 0xFF, t, u);
+        table.n = n;
+        (format!("n = {n}, t = {t}, u = {u}"), table.bytes())
+    })
+    .into();
+    let good = table();
+    for end in 0..good.len() {
+        bad.push((format!("cut to {end} bytes"), good[..end].to_vec()));
+    }
+    for place in 0..3 + 64 {
+        let tail = &good[place + 1..];
+        let long = [&good[..place], &[good[place] | 0x80, 0], tail].concat();
+        let large = [&good[..place], &[0xFF, 0xFF, 0xFF, 0xFF, 0x10], tail].concat();
+        bad.push((format!("number {place} not shortest"), long));
+        bad.push((format!("number {place} too large"), large));
+    }
+    bad.push(("a byte after".into(), [&good[..], &[0]].concat()));
+    bad.push(("a key after".into(), [&good[..], &[0; 32]].concat()));
+    bad.push(("65,537 bytes".into(), vec![1; 65_537]));
+    bad
+}
+
+/// An order.
+pub fn order(display: u32, expected: u32, new: u32) -> Order {
+    Order {
+        display,
+        expected,
+        new,
+    }
+}
+
+/// A block whose link is still zeros and whose signatures can be told apart.
+pub fn block(slot: u32, orders: &[Order]) -> Block {
+    Block {
+        link: [0; 32],
+        orders: orders.to_vec(),
+        slot: Slot(slot),
+        slot_signature: [slot as u8; 64],
+        block_signature: [!slot as u8; 64],
+    }
+}
+
+/// The five sample blocks: block i takes display 2 from release 39 + i to 40 + i, so that each of its numbers takes one byte.
+pub fn blocks() -> Vec<Block> {
+    (40..)
+        .zip(STAMPS)
+        .map(|(release, slot)| block(slot, &[order(2, release, release + 1)]))
+        .collect()
+}
+
+/// Blocks without orders at these stamps.
+pub fn empty_blocks(stamps: &[u32]) -> Vec<Block> {
+    stamps.iter().map(|slot| block(*slot, &[])).collect()
+}
+
+/// The blocks end to end, each with the link it must carry.
+pub fn chain(genesis: &[u8], blocks: &[Block]) -> Vec<u8> {
+    edited_chain(genesis, blocks, 0, |_| ())
+}
+
+/// As `chain`, with the bytes of block `place` (counted from 1) changed before the next block is linked to them.
+pub fn edited_chain(
+    genesis: &[u8],
+    blocks: &[Block],
+    place: usize,
+    change: impl Fn(&mut Vec<u8>),
+) -> Vec<u8> {
+    let mut chain = Vec::new();
+    let mut before = genesis.to_vec();
+    for (index, block) in blocks.iter().enumerate() {
+        let link = sha256::digest(&before).unwrap();
+        before = Block {
+            link,
+            ..block.clone()
+        }
+        .bytes();
+        if index + 1 == place {
+            change(&mut before);
+        }
+        chain.extend(&before);
+    }
+    chain
+}
+
+/// The chain of the five sample blocks.
+pub fn good_chain(genesis: &[u8]) -> Vec<u8> {
+    chain(genesis, &blocks())
+}
+
+/// As many good verdicts as blocks.
+pub fn verdicts(blocks: usize) -> Vec<u8> {
+    vec![3; blocks]
+}
+
+/// The longest good chain that ends at slot `last`, and its table: in each block 8 orders of 11 bytes.
+pub fn longest_chain(last: u32) -> (Vec<u8>, Vec<u8>) {
+    let start = 1 << 28;
+    let mut table = genesis(1, 0, 1);
+    table.releases = [start; 64];
+    let genesis = table.bytes();
+    let blocks: Vec<Block> = (1..=last)
+        .map(|slot| {
+            let release = start + slot - 1;
+            let orders: Vec<Order> = (0..8)
+                .map(|display| order(display, release, release + 1))
+                .collect();
+            block(slot, &orders)
+        })
+        .collect();
+    let chain = chain(&genesis, &blocks);
+    (genesis, chain)
+}
+
+/// A change in the bytes of a sample block, and the number of the refusal that it meets in a delivered chain.
+pub struct Edit {
+    pub name: &'static str,
+    pub number: u32,
+    pub change: fn(&mut Vec<u8>),
+}
+
+/// Where the parts of a sample block stand.
+const COUNT: usize = 32;
+const DISPLAY: usize = 33;
+const EXPECTED: usize = 34;
+const NEW: usize = 35;
+const SLOT: usize = 36;
+
+/// Puts other bytes where a number of one byte stands.
+fn put(bytes: &mut Vec<u8>, place: usize, number: &[u8]) {
+    bytes.splice(place..=place, number.iter().copied());
+}
+
+/// Faults of one block. Those with 6 need a block before it.
+#[rustfmt::skip]
+pub const EDITS: [Edit; 31] = [
+    Edit { name: "count not shortest", number: 4, change: |b| put(b, COUNT, &[0x81, 0x00]) },
+    Edit { name: "count 80 00", number: 4, change: |b| put(b, COUNT, &[0x80, 0x00]) },
+    Edit { name: "count too large", number: 4, change: |b| put(b, COUNT, &[0xFF, 0xFF, 0xFF, 0xFF, 0x10]) },
+    Edit { name: "count of five high bits", number: 4, change: |b| put(b, COUNT, &[0x81; 5]) },
+    Edit { name: "display not shortest", number: 4, change: |b| put(b, DISPLAY, &[0x82, 0x00]) },
+    Edit { name: "display C0 00", number: 4, change: |b| put(b, DISPLAY, &[0xC0, 0x00]) },
+    Edit { name: "expected not shortest", number: 4, change: |b| put(b, EXPECTED, &[0xA8, 0x80, 0x00]) },
+    Edit { name: "expected too large", number: 4, change: |b| put(b, EXPECTED, &[0x80, 0x80, 0x80, 0x80, 0x10]) },
+    Edit { name: "new not shortest", number: 4, change: |b| put(b, NEW, &[0x80 | 41, 0x00]) },
+    Edit { name: "new too large", number: 4, change: |b| put(b, NEW, &[0xFF; 5]) },
+    Edit { name: "slot not shortest", number: 4, change: |b| put(b, SLOT, &[0x89, 0x00]) },
+    Edit { name: "slot too large", number: 4, change: |b| put(b, SLOT, &[0xFF, 0xFF, 0xFF, 0xFF, 0x7F]) },
+    Edit { name: "count 9", number: 5, change: |b| b[COUNT] = 9 },
+    Edit { name: "count 257", number: 5, change: |b| put(b, COUNT, &[0x81, 0x02]) },
+    Edit { name: "display 64", number: 5, change: |b| b[DISPLAY] = 64 },
+    Edit { name: "display 256", number: 5, change: |b| put(b, DISPLAY, &[0x80, 0x02]) },
+    Edit { name: "display 4,294,967,295", number: 5, change: |b| put(b, DISPLAY, &[0xFF, 0xFF, 0xFF, 0xFF, 0x0F]) },
+    Edit { name: "slot 0", number: 5, change: |b| b[SLOT] = 0 },
+    Edit { name: "slot 257", number: 5, change: |b| put(b, SLOT, &[0x81, 0x02]) },
+    Edit { name: "slot 65,537", number: 5, change: |b| put(b, SLOT, &[0x81, 0x80, 0x04]) },
+    Edit { name: "slot 1 again", number: 6, change: |b| b[SLOT] = 1 },
+    Edit { name: "slot just above now", number: 7, change: |b| b[SLOT] = 21 },
+    Edit { name: "slot 256", number: 7, change: |b| put(b, SLOT, &[0x80, 0x02]) },
+    Edit { name: "link's first bit", number: 9, change: |b| b[0] ^= 0x80 },
+    Edit { name: "link's last bit", number: 9, change: |b| b[31] ^= 1 },
+    Edit { name: "link of zeros", number: 9, change: |b| b[..32].fill(0) },
+    Edit { name: "new as expected", number: 10, change: |b| b[NEW] = b[EXPECTED] },
+    Edit { name: "new below expected", number: 10, change: |b| b[NEW] = b[EXPECTED] - 1 },
+    Edit { name: "expected too low", number: 10, change: |b| b[EXPECTED] -= 1 },
+    Edit { name: "expected too high", number: 10, change: |b| { b[EXPECTED] += 1; b[NEW] += 1 } },
+    Edit { name: "another display", number: 10, change: |b| b[DISPLAY] = 3 },
+];
+
+/// Chains that fail at the first, the middle or the last of the sample blocks, delivered with good verdicts at slot 20: the fault, the bytes
+/// and the refusal. As held chains all meet 17 at the same place.
+pub fn bad_chains(genesis: &[u8]) -> Vec<(String, Vec<u8>, Refusal)> {
+    let mut bad = Vec::new();
+    for place in [1, 3, 5] {
+        let refused = |number| Refusal {
+            number,
+            place: place as u32,
+        };
+        for edit in &EDITS {
+            if (edit.number, place) != (6, 1) {
+                let chain = edited_chain(genesis, &blocks(), place, edit.change);
+                let fault = format!("{} in block {place}", edit.name);
+                bad.push((fault, chain, refused(edit.number)));
+            }
+        }
+        let end = BLOCK * (place - 1);
+        for more in 1..BLOCK {
+            let chain = good_chain(genesis)[..end + more].to_vec();
+            bad.push((
+                format!("block {place} cut to {more} bytes"),
+                chain,
+                refused(3),
+            ));
+        }
+    }
+    bad.extend(leftovers(genesis));
+    bad
+}
+
+/// The sample chain with bytes after it that are no block.
+fn leftovers(genesis: &[u8]) -> impl Iterator<Item = (String, Vec<u8>, Refusal)> {
+    let chain = good_chain(genesis);
+    let rest = [
+        (3, vec![0]),
+        (3, vec![0; 32]),
+        (4, [&[0; 32], &[0x80, 0x00][..]].concat()),
+        (5, vec![9; 33]),
+    ];
+    rest.into_iter().map(move |(number, rest)| {
+        let refused = Refusal { number, place: 6 };
+        let fault = format!("{} leftover bytes", rest.len());
+        (fault, [&chain[..], &rest].concat(), refused)
+    })
+}
+
+/// Held chains that are bad whatever the blocks say: buffer and length, 17 at place 0.
+pub fn bad_lengths(genesis: &[u8]) -> Vec<(Vec<u8>, usize)> {
+    let chain = good_chain(genesis);
+    vec![
+        (chain.clone(), chain.len() + 1),
+        (chain.clone(), usize::MAX),
+        (vec![], 1),
+        (vec![0; chain::LONGEST], chain::LONGEST + 1),
+        (vec![0; chain::LONGEST + 1], chain::LONGEST + 1),
+        (vec![0; 70_000], 70_000),
+    ]
+}
+
+/// An entry.
+pub fn entry(order: Order, slot: u32) -> Entry {
+    Entry {
+        order,
+        slot: Slot(slot),
+    }
+}
+
+/// Pools that meet 18 at slot 20, and why.
+pub fn bad_pools() -> Vec<(String, Pool)> {
+    let mut bad = Vec::new();
+    let good = Pool::of(&[entry(order(0, 0, 1), 18); ROOM]);
+    for count in [65, 128, 257, u32::MAX] {
+        let pool = Pool {
+            count,
+            ..good.clone()
+        };
+        bad.push((format!("count {count}"), pool));
+    }
+    for place in [0, 31, 63] {
+        for display in [64, 256, u32::MAX] {
+            let mut pool = good.clone();
+            pool.entries[place].order.display = display;
+            bad.push((format!("entry {place}: display {display}"), pool));
+        }
+        for slot in [0, 21, 257, 65_536, u32::MAX] {
+            let mut pool = good.clone();
+            pool.entries[place].slot = Slot(slot);
+            bad.push((format!("entry {place}: slot {slot}"), pool));
+        }
+    }
+    let mut old = good;
+    old.count = 1;
+    old.entries[0] = entry(order(64, 0, 1), 1);
+    bad.push(("an entry that no longer counts: display 64".into(), old));
+    bad
+}
+
+/// The arguments of every call, and its lent buffers.
+#[derive(Debug, Clone, PartialEq, Eq)]
+pub struct Case {
+    pub genesis: Vec<u8>,
+    pub now: Slot,
+    pub held: Vec<u8>,
+    pub held_length: usize,
+    pub delivered: Vec<u8>,
+    pub verdicts: Vec<u8>,
+    pub pool: Pool,
+    pub order: Order,
+    pub controller: u32,
+    pub slot_signature: [u8; 64],
+    pub block_signature: [u8; 64],
+    pub buffer: Vec<u8>,
+}
+
+impl Case {
+    /// A case that every call accepts: two blocks without orders are held, five are delivered, the pool takes display 2 from 40 to 41, and
+    /// the offered order from 41 to 42.
+    pub fn good() -> Case {
+        let genesis = table();
+        let mut held = chain(&genesis, &empty_blocks(&[1, 3]));
+        let held_length = held.len();
+        held.resize(1_000, FILLER);
+        Case {
+            now: NOW,
+            held,
+            held_length,
+            delivered: good_chain(&genesis),
+            verdicts: verdicts(5),
+            pool: Pool::of(&[entry(order(2, 40, 41), 18)]),
+            order: order(2, 41, 42),
+            controller: 2,
+            slot_signature: [0x51; 64],
+            block_signature: [0xB1; 64],
+            buffer: vec![FILLER; 400],
+            genesis,
+        }
+    }
+
+    /// The second delivered block, from its first byte.
+    fn second(&mut self) -> &mut [u8] {
+        &mut self.delivered[BLOCK..]
+    }
+}
+
+/// A fault in a good case: the refusal that it meets, and what makes it.
+pub type Fault = (Refusal, fn(&mut Case));
+
+/// A fault of a block.
+fn at(number: u32, place: u32, fault: fn(&mut Case)) -> Fault {
+    (Refusal { number, place }, fault)
+}
+
+/// The faults of adoption in their order, those of the second delivered block among them; 6 and 7 can't meet in one block, so one of the
+/// two is asked for.
+pub fn adopting_faults(stamp: u32) -> Vec<Fault> {
+    let stamp_fault = match stamp {
+        6 => at(6, 2, |case| case.second()[SLOT] = 1),
+        _ => at(7, 2, |case| case.second()[SLOT] = 20),
+    };
+    vec![
+        (refusal(1), |case| case.genesis.push(0)),
+        (refusal(2), |case| case.now = Slot(257)),
+        at(17, 1, |case| case.held[0] ^= 1),
+        (refusal(16), |case| {
+            case.delivered.resize(chain::LONGEST + 1, 0)
+        }),
+        at(4, 2, |case| {
+            put(&mut case.delivered, BLOCK + COUNT, &[0x81, 0])
+        }),
+        at(5, 2, |case| case.second()[DISPLAY] = 64),
+        stamp_fault,
+        at(8, 2, |case| case.verdicts[1] = 2),
+        at(9, 2, |case| case.second()[0] ^= 1),
+        at(10, 2, |case| case.second()[NEW] = 41),
+        (refusal(11), |case| case.delivered.truncate(2 * BLOCK)),
+        (refusal(15), |case| case.held.truncate(case.held_length)),
+    ]
+}
+
+/// The faults of pooling in their order.
+pub fn pooling_faults() -> Vec<Fault> {
+    vec![
+        (refusal(1), |case| case.genesis.push(0)),
+        (refusal(2), |case| case.now = Slot(0)),
+        at(17, 2, |case| case.held[162] ^= 1),
+        (refusal(18), |case| case.pool.count = 65),
+        (refusal(5), |case| case.order.display = 64),
+        (refusal(14), |case| case.order.new = case.order.expected),
+        (refusal(13), |case| {
+            case.pool.count = 64;
+            case.pool.entries[1..].fill(entry(order(9, 9, 9), 16));
+        }),
+    ]
+}
+
+/// The faults of issuing in their order.
+pub fn issuing_faults() -> Vec<Fault> {
+    vec![
+        (refusal(1), |case| case.genesis.push(0)),
+        (refusal(2), |case| case.now = Slot(0)),
+        at(17, 1, |case| case.held[0] ^= 1),
+        (refusal(18), |case| case.pool.entries[0].slot = Slot(0)),
+        (refusal(12), |case| case.controller = 3),
+        (refusal(6), |case| case.held[162 + 33] = 20),
+        (refusal(15), |case| {
+            case.held.truncate(case.held_length);
+            case.buffer.clear();
+        }),
+    ]
+}
+
+/// Makes every choice of the faults, given in the order of refusals, and sees that the call refuses with the earliest of them and leaves the
+/// case as it came. Without a fault it must accept.
+pub fn refuses_in_order(faults: &[Fault], call: impl Fn(&mut Case) -> Option<Refusal>) {
+    for choice in 0..1u32 << faults.len() {
+        let chosen = (0..faults.len()).filter(|place| choice >> place & 1 == 1);
+        let mut case = Case::good();
+        let mut earliest = None;
+        for place in chosen.rev() {
+            let (refused, fault) = faults[place];
+            fault(&mut case);
+            earliest = Some(refused);
+        }
+        answers(earliest, &format!("choice {choice:b}"), case, &call);
+    }
+}
+
+/// Sees that a call gives this refusal or none, and that a refusal leaves the case as it came.
+pub fn answers(
+    refused: Option<Refusal>,
+    fault: &str,
+    mut case: Case,
+    call: impl Fn(&mut Case) -> Option<Refusal>,
+) {
+    let before = case.clone();
+    assert_eq!(call(&mut case), refused, "{fault}");
+    assert!(
+        refused.is_none() || case == before,
+        "{fault}: refused, and something changed"
+    );
+}
+
+/// Sees that a call refuses every bad genesis with 1 and every bad now with 2.
+pub fn refuses_bad_openings(call: impl Fn(&mut Case) -> Option<Refusal>) {
+    for (fault, genesis) in bad_geneses() {
+        let case = Case {
+            genesis,
+            ..Case::good()
+        };
+        answers(Some(refusal(1)), &fault, case, &call);
+    }
+    for now in BAD_NOWS {
+        let case = Case {
+            now,
+            ..Case::good()
+        };
+        answers(Some(refusal(2)), &format!("{now:?}"), case, &call);
+    }
+}
+
+/// Sees that a call refuses every bad held chain with 17 at its place.
+pub fn refuses_bad_held(call: impl Fn(&mut Case) -> Option<Refusal>) {
+    for (fault, held, refused) in bad_chains(&table()) {
+        let case = Case {
+            held_length: held.len(),
+            held,
+            ..Case::good()
+        };
+        let refused = Refusal {
+            number: 17,
+            ..refused
+        };
+        answers(Some(refused), &fault, case, &call);
+    }
+    for (held, held_length) in bad_lengths(&table()) {
+        let case = Case {
+            held,
+            held_length,
+            ..Case::good()
+        };
+        answers(
+            Some(refusal(17)),
+            &format!("held length {held_length}"),
+            case,
+            &call,
+        );
+    }
+}
+
+/// Sees that a call refuses every bad pool with 18.
+pub fn refuses_bad_pools(call: impl Fn(&mut Case) -> Option<Refusal>) {
+    for (fault, pool) in bad_pools() {
+        let case = Case {
+            pool,
+            ..Case::good()
+        };
+        answers(Some(refusal(18)), &fault, case, &call);
+    }
+}
