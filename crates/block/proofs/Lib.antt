@@ -3,3 +3,5 @@ pub mod Ranges
 pub mod RoundTrip
 pub mod Whole
 pub mod Lists
+pub mod Theorems
+pub mod Answers

@@ -76,3 +76,11 @@ groups-few (suc k) v =
 pub at-most-five : (v : ℕ) → length (written v) ≤ 5
 unfolding written
 at-most-five v = groups-few 5 v
+
+pub at-least-one : (v : ℕ) → 1 ≤ length (written v)
+unfolding written groups
+at-least-one v = lt-cases v 128 (λ small. simp (lt-ltb _ _ small) (omega arith)) (λ large. simp (le-ltb _ _ large) (omega arith))
+
+pub two-groups : (v : ℕ) → v < 16384 → length (written v) ≤ 2
+two-groups v h =
+    lt-cases v 128 (λ small. omega (arith, shortest v small)) (λ large. omega (arith, sized 0 v large h (omega arith)))
