@@ -93,17 +93,25 @@ fn signature_at(s: &[u8], at: usize) -> [u8; 64]
 fn refused_block(number: u32) -> BlockRead
     ensures { λ r. ⌜ (toldBlock r ≡ refuses number 0) × (r .block ≡ blockIn noParts) ⌝ }
 {
-    let none = reading::no_orders();
+    let block = none();
     BlockRead {
         place: Place::Refused(number),
-        block: Block {
-            front: Front {
-                link: [0u8; 32],
-                orders: none,
-                slot: Slot(0),
-                slot_signature: [0u8; 64],
-            },
-            block_signature: [0u8; 64],
+        block,
+    }
+}
+
+// What stands where no block does: zeros.
+pub fn none() -> Block
+    ensures { λ r. ⌜ r ≡ blockIn noParts ⌝ }
+{
+    let orders = reading::no_orders();
+    Block {
+        front: Front {
+            link: [0u8; 32],
+            orders,
+            slot: Slot(0),
+            slot_signature: [0u8; 64],
         },
+        block_signature: [0u8; 64],
     }
 }

@@ -1,12 +1,12 @@
--- `block::refused_block` meets its contract.
+-- `block::none` meets its contract.
 -- Assumes nothing.
-use mathlib.Core.Path.{refl, ap}
+use mathlib.Core.Path.{ap}
 use lib.ListN.{replicate}
 use borrow.Author.Needs.{needs}
 use Rattle.block.specs.declared.Block.{Block}
 use Rattle.block.specs.declared.reading.Orders.{Orders}
-use Rattle.block.proofs.refused_block.Statement.{statement}
-use Rattle.block.proofs.refused_block.Tie as tie
+use Rattle.block.proofs.none.Statement.{statement}
+use Rattle.block.proofs.none.Tie as tie
 
 no-orders-requires : tie.Need-no-orders-requires
 no-orders-requires c κs = search needs
@@ -18,7 +18,7 @@ withOrders orders = record {
 }
 
 returns : tie.Need-returns
-returns c = (refl, ap (λ (orders : Orders). withOrders orders) (c .no-orders .ensures))
+returns c = ap (λ (orders : Orders). withOrders orders) (c .no-orders .ensures)
 
-pub refused-block-spec : {M : Type 1} → statement M
-refused-block-spec = tie.close (tie.spec no-orders-requires returns)
+pub none-spec : {M : Type 1} → statement M
+none-spec = tie.close (tie.spec no-orders-requires returns)
