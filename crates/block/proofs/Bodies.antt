@@ -10,10 +10,15 @@ use lib.ListN.{length}
 use borrow.Author.Tests.{le-leb, lt-leb, leb-true}
 use Rattle.laws.specs.Told.{gives, refuses, Found, found, then, unless}
 use Rattle.laws.specs.Bytes.{part, bytesAt}
+use Rattle.laws.specs.Every.{within}
 use Rattle.laws.proofs.Cases.{lt-cases}
+use Rattle.laws.proofs.Every.{within-true}
+use Rattle.laws.proofs.Repeated.{repeated-moves, repeated-length}
+use Rattle.number.specs.Number.{numberAt}
+use Rattle.number.proofs.Groups.{number-moves}
 use Rattle.laws.proofs.Told.{then-assoc, then-unless, then-gives, then-refuses, unless-gives, gives-same}
 use Rattle.order.specs.declared.Order.{Order}
-use Rattle.block.specs.Block.{Parts, ordersAt, blockAt, numberIn}
+use Rattle.block.specs.Block.{Parts, orderAt, ordersAt, blockAt, numberIn}
 use Rattle.block.specs.Steps.{bodyAt, stampAt}
 
 -- two signatures have room exactly if their 128 bytes have
@@ -80,7 +85,8 @@ pieces s at b e =
 pub record Stands (s : List ℕ) (at : ℕ) (b : Found Parts) : Type 0 where
   pub starts : at + 32 ≤ length s
   pub ends : b .next ≤ length s
-  pub signed : 128 ≤ b .next
+  pub long : at + 162 ≤ b .next
+  pub few : length (b .value .orders) ≤ 8
   pub link : b .value .link ≡ part s at 32
   pub slot-signature : b .value .slotSignature ≡ part s (b .next - 128) 64
   pub block-signature : b .value .blockSignature ≡ part s (b .next - 64) 64
@@ -92,18 +98,45 @@ part-reads size s at r e =
     subst (λ (q : Found (List ℕ)). (at + size ≤ length s) × (q .value ≡ part s at size) × (q .next ≡ at + size)) (gives-same is)
     (leb-true _ _ room, refl, refl)
 
+number-in-moves : (least most : ℕ) (s : List ℕ) (at : ℕ) (r : Found ℕ) → numberIn least most s at ≡ gives r → (at < r .next) × (r .value ≤ most)
+number-in-moves least most s at r e =
+    let (q, reads, fits) = then-gives (numberAt s at) _ r e in
+    let (inside, is) = unless-gives (within least most (q .value)) 5 0 (gives q) r fits in
+    subst (λ (q : Found ℕ). (at < q .next) × (q .value ≤ most)) (gives-same is) (number-moves s at q reads, within-true _ _ _ inside .1)
+
+order-moves : (s : List ℕ) (at : ℕ) (r : Found Order) → orderAt s at ≡ gives r → at ≤ r .next
+order-moves s at r e =
+    let (display, reads, rest) = then-gives (numberIn 0 63 s at) _ r e in
+    let (expected, reads′, rest′) = then-gives (numberAt s (display .next)) _ r rest in
+    let (new, reads″, is) = then-gives (numberAt s (expected .next)) _ r rest′ in
+    let (one, _) = number-in-moves 0 63 s at display reads in
+    let two = number-moves s (display .next) expected reads′ in
+    let three = number-moves s (expected .next) new reads″ in
+    subst (λ (q : Found Order). at ≤ q .next) (gives-same is) (omega arith)
+
+orders-move : (s : List ℕ) (at : ℕ) (r : Found (List Order)) → ordersAt s at ≡ gives r → (at < r .next) × (length (r .value) ≤ 8)
+orders-move s at r e =
+    let (count, reads, rest) = then-gives (numberIn 0 8 s at) _ r e in
+    let (one, few) = number-in-moves 0 8 s at count reads in
+    let more = repeated-moves orderAt s (order-moves s) (count .value) (count .next) r rest in
+    let long = repeated-length orderAt (count .value) s (count .next) r rest in
+    (omega arith, omega arith)
+
 stands-by : (s : List ℕ) (at : ℕ) (b : Found Parts) → Pieces s at b → Stands s at b
 stands-by s at b p =
     let (l-room, l-is, l-next) = part-reads 32 s at (p .link) (p .link-reads) in
     let (f-room, f-is, f-next) = part-reads 64 s (p .slot .next) (p .first) (p .first-reads) in
     let (s-room, s-is, s-next) = part-reads 64 s (p .first .next) (p .second) (p .second-reads) in
+    let (o-next, few) = orders-move s (p .link .next) (p .orders) (p .orders-read) in
+    let (t-next, _) = number-in-moves 1 256 s (p .orders .next) (p .slot) (p .slot-reads) in
     let first-at : p .second .next - 128 ≡ p .slot .next = omega arith in
     let second-at : p .second .next - 64 ≡ p .first .next = omega arith in
     subst (Stands s at) (gives-same (p .is))
     (record {
       starts = l-room;
       ends = omega arith;
-      signed = omega arith;
+      long = omega arith;
+      few = few;
       link = l-is;
       slot-signature = f-is ∙ ap (λ (n : ℕ). part s n 64) (sym first-at);
       block-signature = s-is ∙ ap (λ (n : ℕ). part s n 64) (sym second-at);

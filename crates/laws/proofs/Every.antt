@@ -3,12 +3,14 @@
 use mathlib.Core.Path.{_≡_, refl, ap₂}
 use mathlib.Core.Bool.{Bool, true, false}
 use mathlib.Core.List.{List, [], _∷_}
-use Prim.Native.Nat.{ℕ, zero, suc, _<_, _≤_}
+use Prim.Native.Nat.{ℕ, zero, suc, _+_, _<_, _≤_}
 use native.Mathlib.Nat.{not-suc-le-zero, le-of-suc-le-suc}
 use native.Mathlib.Omega.{arith}
 use lib.Dec.{T, leb, eqb, eqb→eq}
-use borrow.Author.Tests.{le-leb, lt-leb, leb-true}
-use lib.ListN.{length, getD}
+use borrow.Author.Tests.{le-leb, lt-leb, leb-true, eq-eqb}
+use lib.ListN.{length, getD, drop, drop-of-length-le}
+use lib.Seq.{drop-cons}
+use native.Mathlib.Numerals.{add-one}
 use Rattle.laws.specs.Every.{both, within, every, same}
 
 pub both-left : (a b : Bool) → T (both a b) → T a
@@ -47,3 +49,15 @@ within-here least most n low high = rw (le-leb least n low) (le-leb n most high)
 
 pub within-above : (least most n : ℕ) → most < n → within least most n ≡ false
 within-above least most n high = rw (lt-leb n most high) (both-false (leb least n))
+
+-- two lists, from one place on
+pub same-from : (xs ys : List ℕ) (i : ℕ) → i < length xs → i < length ys
+    → same (drop i xs) (drop i ys) ≡ both (eqb (getD xs i 0) (getD ys i 0)) (same (drop (i + 1) xs) (drop (i + 1) ys))
+same-from xs ys i h k = rw (add-one, drop-cons xs i 0 h, drop-cons ys i 0 k)
+
+pub same-over : (xs ys : List ℕ) (i : ℕ) → length xs ≤ i → length ys ≤ i → same (drop i xs) (drop i ys) ≡ true
+same-over xs ys i h k = rw (drop-of-length-le xs h, drop-of-length-le ys k)
+
+pub same-refl : (xs : List ℕ) → same xs xs ≡ true
+same-refl [] = refl
+same-refl (x ∷ xs) = rw (eq-eqb x x refl, same-refl xs)

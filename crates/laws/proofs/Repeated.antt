@@ -1,8 +1,8 @@
 -- Reading a format several times in a loop: the values so far, and what is left to read.
 -- Assumes nothing.
-use mathlib.Core.Path.{_≡_, refl, sym, ap, _∙_}
+use mathlib.Core.Path.{_≡_, refl, sym, ap, _∙_, subst}
 use mathlib.Core.List.{List, [], _∷_, _++_, append-assoc, append-nil}
-use Prim.Native.Nat.{ℕ, zero, suc, _+_, _-_, _<_}
+use Prim.Native.Nat.{ℕ, zero, suc, _+_, _-_, _<_, _≤_}
 use native.Mathlib.Omega.{arith}
 use native.Mathlib.Nat.{sub-zero}
 use native.Mathlib.Numerals.{add-one}
@@ -75,3 +75,15 @@ repeated-length readAt (suc times) s at r e =
     let (first, reads, rest) = then-gives (readAt s at) _ r e in
     let (others, more, whole) = then-gives (repeated readAt times s (first .next)) _ r rest in
     ap (λ q. length (q .value)) (sym (gives-same whole)) ∙ ap suc (repeated-length readAt times s (first .next) others more)
+
+-- several readings move on if each does
+pub repeated-moves : {A : Type 0} (readAt : List ℕ → ℕ → Told (Found A)) (s : List ℕ)
+    → ((at : ℕ) (r : Found A) → readAt s at ≡ gives r → at ≤ r .next)
+    → (times at : ℕ) (r : Found (List A)) → repeated readAt times s at ≡ gives r → at ≤ r .next
+repeated-moves readAt s one zero at r e = subst (λ (q : Found (List _)). at ≤ q .next) (gives-same e) (omega arith)
+repeated-moves readAt s one (suc times) at r e =
+    let (first, reads, rest) = then-gives (readAt s at) _ r e in
+    let (others, more, whole) = then-gives (repeated readAt times s (first .next)) _ r rest in
+    let begins = one at first reads in
+    let ends = repeated-moves readAt s one times (first .next) others more in
+    subst (λ (q : Found (List _)). at ≤ q .next) (gives-same whole) (omega arith)

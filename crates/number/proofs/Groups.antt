@@ -1,14 +1,16 @@
 -- A number's groups, taken one after the other from the lowest: what the reading loop keeps.
 -- Assumes nothing.
-use mathlib.Core.Path.{_≡_, refl}
+use mathlib.Core.Path.{_≡_, refl, subst}
 use mathlib.Core.List.{List}
-use Prim.Native.Nat.{ℕ, suc, _+_, _-_, _*_, _<_, _≤_}
+use Prim.Native.Nat.{ℕ, zero, suc, _+_, _-_, _*_, _<_, _≤_}
 use native.Mathlib.Omega.{arith}
 use native.Mathlib.Nat.{mul-comm}
 use Rattle.laws.proofs.Cases.{lt-cases}
+use lib.Dec.{ltb, leb}
 use lib.ListN.{length, getD}
 use borrow.Author.Tests.{lt-ltb, le-ltb, le-leb}
-use Rattle.laws.specs.Told.{Told, gives, refuses, Found, found, then}
+use Rattle.laws.specs.Told.{Told, gives, refuses, Found, found, then, unless}
+use Rattle.laws.proofs.Told.{gives-not-refuses, gives-same, then-gives, unless-gives}
 use Rattle.number.specs.Number.{largest, joined, capped, readGroups, numberAt}
 use Rattle.number.specs.Steps.{endedBy, finished}
 
@@ -72,3 +74,24 @@ module _ (s : List ℕ) (at : ℕ) where
     unfolding numberAt readGroups
     number-more h =
         simp (lt-ltb _ _ inside, le-ltb _ _ h) (joined-capped (getD s at 0) (readGroups 4 s (at + 1)))
+
+-- a number that reads has at least one byte
+groups-move : (k : ℕ) (s : List ℕ) (at : ℕ) (r : Found ℕ) → readGroups k s at ≡ gives r → at < r .next
+unfolding readGroups
+groups-move zero s at r e = gives-not-refuses e
+groups-move (suc k) s at r e =
+    let (inside, rest) = unless-gives (ltb at (length s)) 3 0 _ r e in
+    lt-cases (getD s at 0) 128
+    (λ last. subst (λ (q : Found ℕ). at < q .next) (gives-same (simp (lt-ltb _ _ last) at rest)) (omega arith))
+    (λ more.
+    let (q, reads, ends) = then-gives (readGroups k s (at + 1)) _ r (simp (le-ltb _ _ more) at rest) in
+    let (shortest, is) = unless-gives (ltb 0 (q .value)) 4 0 _ r ends in
+    let further = groups-move k s (at + 1) q reads in
+    subst (λ (q : Found ℕ). at < q .next) (gives-same is) (omega arith))
+
+pub number-moves : (s : List ℕ) (at : ℕ) (r : Found ℕ) → numberAt s at ≡ gives r → at < r .next
+unfolding numberAt
+number-moves s at r e =
+    let (q, reads, fits) = then-gives (readGroups 5 s at) _ r e in
+    let (small, is) = unless-gives (leb (q .value) largest) 4 0 _ r fits in
+    subst (λ (q : Found ℕ). at < q .next) (gives-same is) (groups-move 5 s at q reads)

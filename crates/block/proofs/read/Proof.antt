@@ -47,16 +47,16 @@ mul-signature-at : tie.Need-mul-signature-at
 mul-signature-at c = search needs
 
 sub-signature-at : tie.Need-sub-signature-at
-sub-signature-at c = let k = known (c .before .before) in omega (arith, k .4 .signed, k .3)
+sub-signature-at c = let k = known (c .before .before) in omega (arith, k .4 .long, k .3)
 
 signature-at-requires : tie.Need-signature-at-requires
-signature-at-requires c κs = let k = known (c .before .before) in omega (arith, k .4 .signed, k .4 .ends, k .3)
+signature-at-requires c κs = let k = known (c .before .before) in omega (arith, k .4 .long, k .4 .ends, k .3)
 
 sub-signature-at-2 : tie.Need-sub-signature-at-2
-sub-signature-at-2 c = let k = known (c .before .before .before) in omega (arith, k .4 .signed, k .3)
+sub-signature-at-2 c = let k = known (c .before .before .before) in omega (arith, k .4 .long, k .3)
 
 signature-at-requires-2 : tie.Need-signature-at-requires-2
-signature-at-requires-2 c κs = let k = known (c .before .before .before) in omega (arith, k .4 .signed, k .4 .ends, k .3)
+signature-at-requires-2 c κs = let k = known (c .before .before .before) in omega (arith, k .4 .long, k .4 .ends, k .3)
 
 returns : tie.Need-returns
 returns c =
