@@ -45,6 +45,10 @@ genesisOf s = faulty (then (headAt s) λ h. then (repeated numberAt 64 s (h .nex
 abbrev pub turn : Genesis → ℕ → ℕ
 turn g slot = pick (ltb 0 (g .n)) ((slot - 1) % g .n + 1) 0
 
+-- refusal 2: "now is not 1 to 256"
+abbrev pub clockFits : Genesis → ℕ → Bool
+clockFits g clock = within 1 256 clock
+
 -- how many slots a block must lie back to be settled
 abbrev pub depth : Genesis → ℕ
 depth g = 3 * g .t + 1

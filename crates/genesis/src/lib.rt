@@ -184,6 +184,13 @@ pub fn turn(table: Genesis, slot: Slot) -> u32
     (slot.0 - 1) % table.n + 1
 }
 
+// Whether a slot is one that a clock may show.
+pub fn clock_fits(table: Genesis, clock: Slot) -> bool
+    ensures { λ r. ⌜ r ≡ spec.clockFits table (clock .0) ⌝ }
+{
+    within(1, clock.0, 256)
+}
+
 // How many slots a block must lie back to be settled.
 pub fn depth(table: Genesis) -> u64
     ensures { λ r. ⌜ r ≡ spec.depth table ⌝ }

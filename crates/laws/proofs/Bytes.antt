@@ -1,10 +1,13 @@
 -- Lists of bytes: put together, and taken apart.
 -- Assumes nothing.
+use mathlib.Core.Path.{_≡_, _∙_}
 use mathlib.Core.List.{List, [], _∷_, _++_}
-use Prim.Native.Nat.{ℕ, zero, suc, _+_, _<_}
+use Prim.Native.Nat.{ℕ, zero, suc, _+_, _<_, _≤_}
+use native.Mathlib.Omega.{arith}
 use lib.Dec.{lit<}
-use lib.ListN.{take, drop}
-use lib.Seq.{getD-drop}
+use lib.ListN.{length, take, drop, getD, length-drop}
+use lib.Seq.{getD-take, getD-drop, length-take-le}
+use Rattle.laws.specs.Bytes.{part}
 use Rattle.laws.specs.Format.{Bytes}
 
 pub bytes-nil : Bytes []
@@ -25,3 +28,9 @@ bytes-take (suc n) (x ∷ xs) hs = bytes-cons x (take n xs) (hs 0) (bytes-take n
 
 pub bytes-drop : (n : ℕ) (xs : List ℕ) → Bytes xs → Bytes (drop n xs)
 bytes-drop n xs hs i = rw (getD-drop n xs i 0) (hs (n + i))
+
+pub part-length : (s : List ℕ) (at size : ℕ) → at + size ≤ length s → length (part s at size) ≡ size
+part-length s at size h = length-take-le size (drop at s) (rw length-drop (omega arith))
+
+pub part-byte : (s : List ℕ) (at size i : ℕ) → i < size → getD (part s at size) i 0 ≡ getD s (at + i) 0
+part-byte s at size i h = getD-take size (drop at s) i 0 h ∙ getD-drop at s i 0

@@ -10,3 +10,4 @@ pub mod Sets
 pub mod Repeated
 pub mod Formats
 pub mod Taken
+pub mod Run

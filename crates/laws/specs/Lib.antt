@@ -7,3 +7,4 @@ pub mod Every
 pub mod Answers
 pub mod Repeated
 pub mod Bytes
+pub mod Run
