@@ -12,6 +12,11 @@ use Rattle.chain.specs.declared.Way.the-variants.{Delivered, Held}
 use Rattle.chain.specs.declared.judge.Judgement.{Judgement}
 use Rattle.chain.specs.declared.judge.Judgement.the-variants.{Good, Refused}
 use Rattle.chain.specs.declared.judge.Judging.{Judging}
+use Rattle.chain.specs.declared.Opened.{Opened}
+use Rattle.chain.specs.declared.Summary.{Summary}
+use Rattle.chain.specs.declared.pass.Answer.{Answer}
+use Rattle.chain.specs.declared.pass.Answer.the-variants as answer
+use Rattle.chain.specs.declared.pass.Passed.{Passed}
 
 abbrev pub wayOf : Way → List ℕ → chain.Way
 wayOf Delivered verdicts = chain.delivered verdicts
@@ -27,3 +32,15 @@ toldJudging j = toldWith (j .after) (j .judgement)
 -- whether orders were all obeyed, and the releases then
 abbrev pub toldObeyed : Bool → List ℕ → Told (List ℕ)
 toldObeyed all releases = pick all (gives releases) (refuses 10 0)
+
+abbrev pub toldAnswer : {A : Type 0} → A → Answer → Told A
+toldAnswer a answer.Good = gives a
+toldAnswer a (answer.Refused number place) = refuses number (place .0)
+
+abbrev pub toldPassed : Passed → Told Summary
+toldPassed p = toldAnswer (p .summary) (p .answer)
+
+-- a refusal leaves the chain of no blocks
+abbrev pub summaryOr : Opened → Told Summary → Summary
+summaryOr o (gives s) = s
+summaryOr o (refuses number place) = chain.begun o
