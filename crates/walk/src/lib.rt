@@ -56,3 +56,50 @@ pub fn place_after(chain: &[u8], at: usize) -> usize
         Reached::Refused(_) => at,
     }
 }
+
+// The chain that is read, and the place that is reached.
+pub struct Walk<'a> {
+    pub chain: &'a [u8],
+    pub at: usize,
+}
+
+// No branch stands here: a proof over a held slice is by hand, and `step` and `place_after` decide.
+impl<'a> Walk<'a> {
+    pub fn new(chain: &'a [u8], at: usize) -> Walk<'a>
+        ensures { λ r. ⌜ (r .chain ≡ chain .entry) × (r .at ≡ at) ⌝ }
+    {
+        Walk { chain, at }
+    }
+
+    pub fn next(self) -> Stepped
+        ensures answer { λ r. ⌜ told r ≡ stepAt (now (self .entry .chain)) (self .entry .at) ⌝ }
+        ensures block { λ r. ⌜ r .block ≡ blockBeside (stepAt (now (self .entry .chain)) (self .entry .at)) ⌝ }
+    {
+        step(self.chain, self.at)
+    }
+
+    pub fn after(self) -> Walk<'a>
+        ensures { λ r. ⌜ (r .chain ≡ self .entry .chain) × (r .at ≡ placeAfter (self .entry .at) (stepAt (now (self .entry .chain)) (self .entry .at))) ⌝ }
+    {
+        Walk {
+            chain: self.chain,
+            at: place_after(self.chain, self.at),
+        }
+    }
+}
+
+// What a walk that begins at a place meets first.
+pub fn walked(chain: &[u8], at: usize) -> Stepped
+    ensures answer { λ r. ⌜ told r ≡ stepAt (now (chain .entry)) at ⌝ }
+    ensures block { λ r. ⌜ r .block ≡ blockBeside (stepAt (now (chain .entry)) at) ⌝ }
+{
+    Walk::new(chain, at).next()
+}
+
+// What it meets then.
+pub fn walked_on(chain: &[u8], at: usize) -> Stepped
+    ensures answer { λ r. ⌜ told r ≡ stepAt (now (chain .entry)) (placeAfter at (stepAt (now (chain .entry)) at)) ⌝ }
+    ensures block { λ r. ⌜ r .block ≡ blockBeside (stepAt (now (chain .entry)) (placeAfter at (stepAt (now (chain .entry)) at))) ⌝ }
+{
+    Walk::new(chain, at).after().next()
+}
