@@ -3,6 +3,9 @@
 use mathlib.Core.Path.{sym, _∙_}
 use borrow.Author.Tests.{le-leb, lt-leb}
 use borrow.Author.Needs.{needs}
+use native.Mathlib.Omega.{arith}
+use lib.ListN.{length}
+use denote.Ref.{now}
 use Rattle.walk.proofs.step.Statement.{statement}
 use Rattle.walk.proofs.step.Tie as tie
 
@@ -10,7 +13,10 @@ none-requires : tie.Need-none-requires
 none-requires c κs = search needs
 
 returns : tie.Need-returns
-returns c = let past = le-leb _ _ (c .before .if1 .taken) in (simp past, c .none .ensures ∙ simp past)
+returns c =
+    let a = c .before .before .before .args in
+    let past = le-leb (length (now (a .chain))) (a .at) (omega (arith, c .before .if1 .taken)) in
+    (simp past, c .none .ensures ∙ simp past)
 
 read-requires : tie.Need-read-requires
 read-requires c κs = search needs
