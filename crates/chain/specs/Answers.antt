@@ -3,6 +3,7 @@
 use Prim.Native.Nat.{ℕ}
 use mathlib.Core.Bool.{Bool}
 use mathlib.Core.List.{List}
+use lib.ListN.{replicate}
 use Rattle.laws.specs.Pick.{pick}
 use Rattle.laws.specs.Told.{Told, gives, refuses}
 use Rattle.chain.specs.Chain as chain
@@ -14,6 +15,9 @@ use Rattle.chain.specs.declared.judge.Judgement.the-variants.{Good, Refu
 use Rattle.chain.specs.declared.judge.Judging.{Judging}
 use Rattle.chain.specs.declared.Opened.{Opened}
 use Rattle.chain.specs.declared.Summary.{Summary}
+use Rattle.chain.specs.declared.Opening.{Opening}
+use Rattle.chain.specs.declared.Checked.{Checked}
+use Rattle.genesis.specs.Answers.{noTable}
 use Rattle.chain.specs.declared.pass.Answer.{Answer}
 use Rattle.chain.specs.declared.pass.Answer.the-variants as answer
 use Rattle.chain.specs.declared.pass.Passed.{Passed}
@@ -44,3 +48,27 @@ toldPassed p = toldAnswer (p .summary) (p .answer)
 abbrev pub summaryOr : Opened → Told Summary → Summary
 summaryOr o (gives s) = s
 summaryOr o (refuses number place) = chain.begun o
+
+abbrev pub toldOpening : Opening → Told Opened
+toldOpening p = toldAnswer (p .opened) (p .answer)
+
+-- a refusal leaves zeros
+abbrev pub noOpened : Opened
+noOpened = record { table = noTable; link = replicate 32 0; clock = record { 0 = 0 } }
+
+abbrev pub openedOr : Told Opened → Opened
+openedOr (gives o) = o
+openedOr (refuses number place) = noOpened
+
+abbrev pub endOf : Checked → ℕ × List ℕ
+endOf c = (c .count .0, c .releases)
+
+abbrev pub toldChecked : Checked → Told (ℕ × List ℕ)
+toldChecked c = toldAnswer (endOf c) (c .answer)
+
+abbrev pub noEnd : ℕ × List ℕ
+noEnd = (0, replicate 64 0)
+
+abbrev pub endOr : Told (ℕ × List ℕ) → ℕ × List ℕ
+endOr (gives e) = e
+endOr (refuses number place) = noEnd

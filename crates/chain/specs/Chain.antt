@@ -117,6 +117,10 @@ unfoldable pub heldChain : Opened → List ℕ → ℕ → Told Summary
 heldChain o buffer size =
     unless (both (leb size (length buffer)) (leb size longest)) 17 0 (bad (passed o held (take size buffer) (begun o)))
 
+-- "The answer is the block count and the releases after the last block."
+abbrev pub ending : Told Summary → Told (ℕ × List ℕ)
+ending t = then t λ s. gives (s .whole .count .0, s .whole .releases)
+
 -- check a chain
-abbrev pub checked : List ℕ → ℕ → List ℕ → List ℕ → Told Summary
-checked genesis clock chain verdicts = then (opened genesis clock) λ o. deliveredChain o chain verdicts
+abbrev pub checked : List ℕ → ℕ → List ℕ → List ℕ → Told (ℕ × List ℕ)
+checked genesis clock chain verdicts = then (opened genesis clock) λ o. ending (deliveredChain o chain verdicts)

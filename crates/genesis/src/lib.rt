@@ -159,15 +159,23 @@ fn keys_end(bytes: &[u8], keys: usize, n: u32) -> bool
 fn refused() -> Table
     ensures { λ r. ⌜ (told r ≡ refuses 1 0) × (r .table ≡ noTable) ⌝ }
 {
+    let table = none();
     Table {
         answer: Answer::Refused,
-        table: Genesis {
-            n: 0,
-            t: 0,
-            u: 0,
-            releases: [0u32; 64],
-            keys: 0,
-        },
+        table,
+    }
+}
+
+// The table of zeros that stands beside a refusal.
+pub fn none() -> Genesis
+    ensures { λ r. ⌜ r ≡ noTable ⌝ }
+{
+    Genesis {
+        n: 0,
+        t: 0,
+        u: 0,
+        releases: [0u32; 64],
+        keys: 0,
     }
 }
 
