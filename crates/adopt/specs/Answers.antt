@@ -1,0 +1,25 @@
+-- What the answers of this crate tell.
+-- Assumes nothing.
+use Prim.Native.Nat.{ℕ}
+use Rattle.laws.specs.Told.{Told, gives, refuses}
+use Rattle.chain.specs.Answers.{toldAnswer}
+use Rattle.adopt.specs.declared.Judged.{Judged}
+use Rattle.adopt.specs.declared.Adopted.{Adopted}
+
+abbrev pub toldJudged : Judged → Told ℕ
+toldJudged j = toldAnswer (j .count .0) (j .answer)
+
+abbrev pub countOr : Told ℕ → ℕ
+countOr (gives count) = count
+countOr (refuses number place) = 0
+
+abbrev pub sizeAndCount : Adopted → ℕ × ℕ
+sizeAndCount a = (a .length, a .count .0)
+
+abbrev pub toldAdopted : Adopted → Told (ℕ × ℕ)
+toldAdopted a = toldAnswer (sizeAndCount a) (a .answer)
+
+-- a refusal leaves zeros beside it
+abbrev pub sizeAndCountOr : Told (ℕ × ℕ) → ℕ × ℕ
+sizeAndCountOr (gives both) = both
+sizeAndCountOr (refuses number place) = (0, 0)
