@@ -1,0 +1,57 @@
+// Orders at one display's release: `valid` and `take`.
+use crate::fields;
+use crate::fields::same;
+use crate::print;
+use order::Order;
+
+// Answers a case of one of these ops, and says whether it is one.
+pub fn answer(op: &[u8], line: &[u8]) -> bool {
+    if same(op, b"valid") {
+        valid(line);
+        return true;
+    }
+    if same(op, b"take") {
+        take(line);
+        return true;
+    }
+    false
+}
+
+// valid DISPLAY RELEASE EXPECTED NEW
+fn valid(line: &[u8]) {
+    let releases = releases(line);
+    verdict(order::valid(&releases, ordered(line)));
+}
+
+// take DISPLAY RELEASE EXPECTED NEW: the verdict, and the releases afterwards.
+fn take(line: &[u8]) {
+    let mut releases = releases(line);
+    verdict(order::take(&mut releases, ordered(line)));
+    print::releases(&releases);
+}
+
+fn verdict(valid: bool) {
+    if valid {
+        print::text(b"valid");
+    } else {
+        print::text(b"not valid");
+    }
+}
+
+// The display at its release, every other at 0.
+fn releases(line: &[u8]) -> [u32; 64] {
+    let mut releases = [0u32; 64];
+    let display = fields::place(line, 1);
+    if display < 64 {
+        releases[display] = fields::number(line, 2);
+    }
+    releases
+}
+
+fn ordered(line: &[u8]) -> Order {
+    Order {
+        display: fields::number(line, 1),
+        expected: fields::number(line, 3),
+        new: fields::number(line, 4),
+    }
+}

@@ -1,0 +1,113 @@
+// What an answer is printed with.
+use crate::fields::part;
+use libc::STDOUT_FILENO;
+ghost use Prim.Native.Nat.{_≤_};
+
+pub fn text(bytes: &[u8]) {
+    io::write_all(STDOUT_FILENO, bytes);
+}
+
+pub fn decimal(value: u64) {
+    io::print_decimal(STDOUT_FILENO, value);
+}
+
+// A word, which may be empty, a space and a number.
+pub fn value(word: &[u8], value: u64) {
+    text(word);
+    text(b" ");
+    decimal(value);
+}
+
+// A refusal with no place.
+pub fn refused(number: u32) {
+    value(b"refused", number as u64);
+    text(b" 0");
+}
+
+// Bytes in the form of a case's field: pieces of hexadecimal digits, where a byte that stands four times or more is written once.
+pub fn bytes(s: &[u8]) {
+    if s.len() == 0 {
+        text(b"-");
+    }
+    let mut next = 0;
+    let mut i = 0;
+    while i < s.len() {
+        if i == next {
+            next = piece(s, i);
+        }
+        i += 1;
+    }
+}
+
+// Prints the piece at a place, and answers the place after it.
+fn piece(s: &[u8], at: usize) -> usize {
+    if 0 < at {
+        text(b"+");
+    }
+    let end = run_end(s, at);
+    if end - at < 4 {
+        let end = plain_end(s, at);
+        hex_bytes(part(s, at, end));
+        return end;
+    }
+    hex_bytes(part(s, at, at + 1));
+    text(b"*");
+    decimal((end - at) as u64);
+    end
+}
+
+// Where the bytes that are equal to the one at a place end.
+fn run_end(s: &[u8], at: usize) -> usize
+    ensures { λ r. ⌜ at ≤ r ⌝ }
+{
+    let mut i = at;
+    while i < s.len() {
+        if s[i] != s[at] {
+            return i;
+        }
+        i += 1;
+    }
+    i
+}
+
+// Where the next byte that stands four times or more begins.
+fn plain_end(s: &[u8], at: usize) -> usize {
+    let mut i = at;
+    while i < s.len() {
+        if 4 <= run_end(s, i) - i {
+            return i;
+        }
+        i += 1;
+    }
+    i
+}
+
+fn hex_bytes(bytes: &[u8]) {
+    let mut i = 0;
+    while i < bytes.len() {
+        hex_byte(bytes[i]);
+        i += 1;
+    }
+}
+
+fn hex_byte(byte: u8) {
+    io::print_hex(STDOUT_FILENO, byte as u64, 2);
+}
+
+// The displays whose release is not 0, each with its release.
+pub fn releases(releases: &[u32; 64]) {
+    let mut display = 0;
+    while display < 64 {
+        release(display, releases[display]);
+        display += 1;
+    }
+}
+
+fn release(display: usize, release: u32) {
+    if release != 0 {
+        text(b" ");
+        decimal(display as u64);
+        text(b":");
+        decimal(release as u64);
+    }
+}
