@@ -1,3 +1,4 @@
 pub mod Judging
 pub mod Passing
 pub mod Calls
+pub mod Answers
