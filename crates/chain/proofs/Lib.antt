@@ -1,4 +1,5 @@
 pub mod Judging
 pub mod Passing
 pub mod Calls
+pub mod Following
 pub mod Answers
