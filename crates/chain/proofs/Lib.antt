@@ -2,4 +2,5 @@ pub mod Judging
 pub mod Passing
 pub mod Calls
 pub mod Following
+pub mod Settling
 pub mod Answers
