@@ -3,4 +3,5 @@ pub mod Passing
 pub mod Calls
 pub mod Following
 pub mod Settling
+pub mod Accepting
 pub mod Answers
