@@ -24,15 +24,15 @@ use Rattle.chain.specs.Blocks.{chainBytes, follows, Admits}
 use Rattle.chain.proofs.Following.{added}
 use Rattle.chain.proofs.Settling.{onward, summed, first-summed, next-summed}
 
--- a block that stands at a place of a chain
-pub record Stands (chain : List ℕ) (at : ℕ) (p : Parts) : Type 0 where
+-- a block that lies at a place of a chain, and can be read there
+pub record Lies (chain : List ℕ) (at : ℕ) (p : Parts) : Type 0 where
   pub fits : Fits p
   pub reads : blockAt chain at ≡ found p (at + length (blockBytes p))
   pub here : drop at chain ≡ blockBytes p ++ drop (at + length (blockBytes p)) chain
 
 module _ (way : Way) (clock : ℕ) (chain : List ℕ) (before : Standing) where
   -- behind a stamp that is admitted judging asks whether the block follows
-  pub judged-follows : (p : Parts) → Stands chain (before .length) p → admitted way clock (before .count .0) (p .slot) ≡ gives tt
+  pub judged-follows : (p : Parts) → Lies chain (before .length) p → admitted way clock (before .count .0) (p .slot) ≡ gives tt
       → judged way clock chain before ≡ follows before p
   unfolding judged follows
   judged-follows p at admits =
@@ -49,8 +49,8 @@ module _ (way : Way) (clock : ℕ) (chain : List ℕ) (before : Standing) where
       let (_, admits, rest″) = then-gives (admitted way clock (before .count .0) (b .value .slot)) _ after rest′ in
       (b, reads, admits)
 
-pub stands-read : (chain : List ℕ) (at : ℕ) (b : Found Parts) → Bytes chain → blockAt chain at ≡ gives b → Stands chain at (b .value)
-stands-read chain at b bytes reads =
+pub lies-read : (chain : List ℕ) (at : ℕ) (b : Found Parts) → Bytes chain → blockAt chain at ≡ gives b → Lies chain at (b .value)
+lies-read chain at b bytes reads =
     let (fits, next, here) = block-inverse .only-written chain at b bytes reads in
     record {
       fits = fits;
@@ -58,8 +58,8 @@ stands-read chain at b bytes reads =
       here = here ∙ ap (λ (n : ℕ). blockBytes (b .value) ++ drop n chain) next;
     }
 
-pub stands-written : (front rest : List ℕ) (at : ℕ) (p : Parts) → length front ≡ at → Fits p → Stands (front ++ (blockBytes p ++ rest)) at p
-stands-written front rest at p long fits =
+pub lies-written : (front rest : List ℕ) (at : ℕ) (p : Parts) → length front ≡ at → Fits p → Lies (front ++ (blockBytes p ++ rest)) at p
+lies-written front rest at p long fits =
     let chain = front ++ (blockBytes p ++ rest) in
     let over : drop (at + length (blockBytes p)) chain ≡ rest =
     rw (← (append-assoc front (blockBytes p) rest))
@@ -80,7 +80,7 @@ module _ (o : Opened) (way : Way) where
       let (after, one, others) = first-summed o s p rest e sums in
       let a = added (s .whole) p after one in
       let chain = front ++ (blockBytes p ++ chainBytes rest) in
-      let at = stands-written front (chainBytes rest) (s .whole .length) p long fit in
+      let at = lies-written front (chainBytes rest) (s .whole .length) p long fit in
       let some : s .whole .length < length chain =
       omega (arith, length-append front (blockBytes p ++ chainBytes rest), length-append (blockBytes p) (chainBytes rest), a-block-has-162-to-251-bytes p fit) in
       let long′ : length (front ++ blockBytes p) ≡ after .length = omega (arith, length-append front (blockBytes p)) in
@@ -91,7 +91,8 @@ module _ (o : Opened) (way : Way) where
       ∙ again
 
   -- ---- a chain that passes is blocks
-  pub record Blocks (chain : List ℕ) (s e : Summary) : Type 0 where
+  -- from a place in the middle of it
+  pub record Rest (chain : List ℕ) (s e : Summary) : Type 0 where
     pub blocks : List Parts
     pub are : drop (s .whole .length) chain ≡ chainBytes blocks
     pub fit : Each Fits blocks
@@ -99,7 +100,7 @@ module _ (o : Opened) (way : Way) where
     pub sums : summed o s blocks ≡ gives e
 
   module _ (chain : List ℕ) (bytes : Bytes chain) where
-    no-blocks : (s e : Summary) → length chain ≤ s .whole .length → passed o way chain s ≡ gives e → Blocks chain s e
+    no-blocks : (s e : Summary) → length chain ≤ s .whole .length → passed o way chain s ≡ gives e → Rest chain s e
     no-blocks s e over is = record {
       blocks = [];
       are = drop-of-length-le chain over;
@@ -108,11 +109,11 @@ module _ (o : Opened) (way : Way) where
       sums = sym (pass-over o way chain s over) ∙ is;
     }
 
-    one-block : (s e : Summary) (after : Standing) → judged way (o .clock .0) chain (s .whole) ≡ gives after → Blocks chain (onward o s after) e
-        → Blocks chain s e
+    one-block : (s e : Summary) (after : Standing) → judged way (o .clock .0) chain (s .whole) ≡ gives after → Rest chain (onward o s after) e
+        → Rest chain s e
     one-block s e after good others =
         let (b, reads, admit) = judged-reads way (o .clock .0) chain (s .whole) after good in
-        let at = stands-read chain (s .whole .length) b bytes reads in
+        let at = lies-read chain (s .whole .length) b bytes reads in
         let one = sym (judged-follows way (o .clock .0) chain (s .whole) (b .value) at admit) ∙ good in
         let a = added (s .whole) (b .value) after one in
         record {
@@ -124,7 +125,7 @@ module _ (o : Opened) (way : Way) where
           sums = next-summed o s (b .value) (others .blocks) after one ∙ others .sums;
         }
 
-    pub blocks-of : (most : ℕ) (s e : Summary) → length chain ≤ s .whole .length + most → passed o way chain s ≡ gives e → Blocks chain s e
+    pub blocks-of : (most : ℕ) (s e : Summary) → length chain ≤ s .whole .length + most → passed o way chain s ≡ gives e → Rest chain s e
     blocks-of zero s e bound is = no-blocks s e (omega arith) is
     blocks-of (suc most) s e bound is =
         lt-cases (s .whole .length) (length chain)
@@ -132,8 +133,8 @@ module _ (o : Opened) (way : Way) where
         (λ over. no-blocks s e over is)
       where
         go : s .whole .length < length chain → (t : Told Standing) → judged way (o .clock .0) chain (s .whole) ≡ t
-            → ((next : Summary) → length chain ≤ next .whole .length + most → passed o way chain next ≡ gives e → Blocks chain next e)
-            → Blocks chain s e
+            → ((next : Summary) → length chain ≤ next .whole .length + most → passed o way chain next ≡ gives e → Rest chain next e)
+            → Rest chain s e
         go more (gives after) good again =
             let further = judged-further way (o .clock .0) chain (s .whole) after good in
             one-block s e after good (again (onward o s after) (omega arith) (sym (pass-next o way chain s more after good) ∙ is))

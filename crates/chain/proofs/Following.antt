@@ -15,7 +15,7 @@ use Rattle.laws.proofs.Every.{same-is, within-true}
 use Rattle.block.specs.Block.{Parts, blockBytes, Fits}
 use Rattle.chain.specs.Chain.{linkOf, obeyed}
 use Rattle.chain.specs.declared.Standing.{Standing}
-use Rattle.chain.specs.Blocks.{chainBytes, follows, followed, Rising, lastStamp}
+use Rattle.chain.specs.Blocks.{chainBytes, follows, followed, Rising, Below, lastStamp}
 
 -- what one block adds
 pub record Added (before : Standing) (p : Parts) (after : Standing) : Type 0 where
@@ -89,3 +89,28 @@ rising-few from [] low fits rises = omega arith
 rising-few from (p ∷ rest) low (fit, fits) (later, rises) =
     let (_, high) = within-true 1 256 (p .slot) (fit .slot) in
     omega (arith, rising-few (p .slot) rest high fits rises)
+
+-- ---- the last stamp is the greatest
+rising-last : (from : ℕ) (blocks : List Parts) → Rising from blocks → from ≤ lastStamp from blocks
+rising-last from [] rises = omega arith
+rising-last from (p ∷ rest) (later, rises) = omega (arith, rising-last (p .slot) rest rises)
+
+pub last-below : (from clock : ℕ) (blocks : List Parts) → Rising from blocks → lastStamp from blocks < clock → Below clock blocks
+last-below from clock [] rises h = tt
+last-below from clock (p ∷ rest) (later, rises) h =
+    (omega (arith, rising-last (p .slot) rest rises), last-below (p .slot) clock rest rises h)
+
+pub below-last : (from clock : ℕ) (blocks : List Parts) → from < clock → Below clock blocks → lastStamp from blocks < clock
+below-last from clock [] h below = h
+below-last from clock (p ∷ rest) h (one, below) = below-last (p .slot) clock rest one below
+
+-- ---- links
+pub first-link : (s : Standing) (p : Parts) (rest : List Parts) (last : Standing) → followed s (p ∷ rest) ≡ gives last → p .link ≡ s .link
+first-link s p rest last e = let (after, one, _) = first-follows s p rest last e in added s p after one .linked
+
+pub next-link : (s : Standing) (xs : List Parts) (p q : Parts) (ys : List Parts) (last : Standing) → followed s (xs ++ (p ∷ (q ∷ ys))) ≡ gives last
+    → q .link ≡ linkOf (blockBytes p)
+next-link s xs p q ys last e =
+    let (middle, _, behind) = front-follows s xs (p ∷ (q ∷ ys)) last e in
+    let (after, one, others) = first-follows middle p (q ∷ ys) last behind in
+    first-link after q ys last others ∙ added middle p after one .link

@@ -4,4 +4,5 @@ pub mod Calls
 pub mod Following
 pub mod Settling
 pub mod Accepting
+pub mod Accepted
 pub mod Answers

@@ -105,12 +105,19 @@ module _ (o : Opened) where
           let stays = settled-stays (onward o (record { whole = at; settled = at }) after) rest e (same ∙ fine) others in
           rw fine (ap gives (sym (stays ∙ ap (λ (β : Bool). pick β after at) (same ∙ fine))))
 
-  -- ---- the settled blocks are the first ones
-  pub settled-front : (blocks : List Parts) → (rest : List Parts) × (blocks ≡ settledOf o blocks ++ rest)
-  settled-front [] = ([], refl)
-  settled-front (p ∷ rest) = let (more, is) = settled-front rest in go (settles o (p .slot)) more is
+  -- ---- the settled blocks are the first ones, and no other is settled
+  pub settled-exactly : (from : ℕ) (blocks : List Parts) → Rising from blocks
+      → (rest : List Parts) × (blocks ≡ settledOf o blocks ++ rest)
+      × Each (λ p. settles o (p .slot) ≡ true) (settledOf o blocks)
+      × Each (λ p. settles o (p .slot) ≡ false) rest
+  settled-exactly from [] rises = ([], refl, tt, tt)
+  settled-exactly from (p ∷ rest) (later, rises) =
+      let (more, is, all, none) = settled-exactly (p .slot) rest rises in go (settles o (p .slot)) refl more is all none
     where
-      go : (β : Bool) (more : List Parts) → rest ≡ settledOf o rest ++ more
-          → (more′ : List Parts) × ((p ∷ rest) ≡ pick β (p ∷ settledOf o rest) [] ++ more′)
-      go true more is = (more, ap (λ (l : List Parts). p ∷ l) is)
-      go false more is = (p ∷ rest, refl)
+      go : (β : Bool) → settles o (p .slot) ≡ β → (more : List Parts) → rest ≡ settledOf o rest ++ more
+          → Each (λ p. settles o (p .slot) ≡ true) (settledOf o rest) → Each (λ p. settles o (p .slot) ≡ false) more
+          → (more′ : List Parts) × ((p ∷ rest) ≡ pick (settles o (p .slot)) (p ∷ settledOf o rest) [] ++ more′)
+          × Each (λ p. settles o (p .slot) ≡ true) (pick (settles o (p .slot)) (p ∷ settledOf o rest) [])
+          × Each (λ p. settles o (p .slot) ≡ false) more′
+      go true e more is all none = rw e (more, ap (λ (l : List Parts). p ∷ l) is, (e, all), none)
+      go false e more is all none = rw e (p ∷ rest, refl, tt, (e, unsettled (p .slot) rest e rises))

@@ -12,7 +12,7 @@ use Rattle.laws.specs.Every.{same}
 use Rattle.laws.specs.Bytes.{joined}
 use Rattle.laws.specs.Format.{Each}
 use Rattle.block.specs.Block.{Parts, blockBytes, Fits}
-use Rattle.chain.specs.Chain.{Way, linkOf, admitted, obeyed, settles, none}
+use Rattle.chain.specs.Chain.{linkOf, opened, Way, delivered, admitted, obeyed, settles, none}
 use Rattle.chain.specs.declared.Opened.{Opened}
 use Rattle.chain.specs.declared.Standing.{Standing}
 use Rattle.chain.specs.declared.Summary.{Summary}
@@ -56,10 +56,35 @@ pub record Accepted (o : Opened) (way : Way) (blocks : List Parts) (s : Summary)
   pub settled : followed (none o) (settledOf o blocks) ≡ gives (s .settled)
   pub admits : Admits way (o .clock .0) 0 blocks
 
+-- a delivered chain that is accepted, and what the check of it answers: "the block count and the releases after the last block"
+pub record Checks (genesis : List ℕ) (clock : ℕ) (chain verdicts : List ℕ) (count : ℕ) (releases : List ℕ) : Type 0 where
+  pub o : Opened
+  pub opens : opened genesis clock ≡ gives o
+  pub blocks : List Parts
+  pub are : chain ≡ chainBytes blocks
+  pub s : Summary
+  pub accepted : Accepted o (delivered verdicts) blocks s
+  pub counts : count ≡ length blocks
+  pub leaves : releases ≡ s .whole .releases
+
+-- one more block behind an accepted chain, and what they come to together
+pub record Behind (o : Opened) (way : Way) (before : Summary) (p : Parts) (s : Summary) : Type 0 where
+  pub fits : Fits p
+  pub whole : follows (before .whole) p ≡ gives (s .whole)
+  pub settled : s .settled ≡ pick (settles o (p .slot)) (s .whole) (before .settled)
+  pub admits : admitted way (o .clock .0) (before .whole .count .0) (p .slot) ≡ gives tt
+
+-- the same genesis at another slot
+abbrev pub atSlot : Opened → ℕ → Opened
+atSlot o clock = record { table = o .table; link = o .link; clock = record { 0 = clock } }
+
 -- "Slot stamps rise strictly", from one on
 abbrev pub Rising : ℕ → List Parts → Type 0
 Rising from [] = Unit {0}
 Rising from (p ∷ rest) = (from < p .slot) × Rising (p .slot) rest
+
+abbrev pub Below : ℕ → List Parts → Type 0
+Below clock blocks = Each (λ p. p .slot < clock) blocks
 
 -- the last stamp, or what is given where there is no block
 abbrev pub lastStamp : ℕ → List Parts → ℕ
