@@ -5,4 +5,5 @@ pub mod Following
 pub mod Settling
 pub mod Accepting
 pub mod Accepted
+pub mod Clocks
 pub mod Answers
