@@ -6,4 +6,5 @@ pub mod Settling
 pub mod Accepting
 pub mod Accepted
 pub mod Clocks
+pub mod Chains
 pub mod Answers
