@@ -7,4 +7,5 @@ pub mod Accepting
 pub mod Accepted
 pub mod Clocks
 pub mod Chains
+pub mod Theorems
 pub mod Answers
