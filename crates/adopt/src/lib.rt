@@ -37,20 +37,13 @@ pub fn judge(
     ensures answer { λ r. ⌜ toldJudged r ≡ spec.accepted (now (genesis .entry)) (clock .0) (now (held .entry)) length (now (delivered .entry)) (now (verdicts .entry)) ⌝ }
     ensures count { λ r. ⌜ r .count .0 ≡ countOr (spec.accepted (now (genesis .entry)) (clock .0) (now (held .entry)) length (now (delivered .entry)) (now (verdicts .entry))) ⌝ }
 {
-    let opening = chain::open(genesis, clock);
-    let answer = opening.answer;
-    let opened = opening.opened;
+    let holding = chain::hold(genesis, clock, held, length);
+    let answer = holding.answer;
+    let opened = holding.opened;
+    let whole = holding.summary.whole;
     match answer {
         Answer::Refused(number, place) => refused(number, place),
-        Answer::Good => {
-            let passed = chain::held(opened, held, length);
-            let answer = passed.answer;
-            let whole = passed.summary.whole;
-            match answer {
-                Answer::Refused(number, place) => refused(number, place),
-                Answer::Good => against(opened, whole.count, delivered, verdicts),
-            }
-        }
+        Answer::Good => against(opened, whole.count, delivered, verdicts),
     }
 }
 

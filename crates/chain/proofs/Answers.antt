@@ -6,10 +6,11 @@ use mathlib.Core.List.{List}
 use Rattle.laws.specs.Told.{Told, gives, refuses}
 use Rattle.laws.specs.Answers.{Faithful}
 use Rattle.laws.proofs.Answers.{undone}
-use Rattle.chain.specs.Answers.{toldAnswer, toldOpening, toldPassed, toldChecked, endOf}
+use Rattle.chain.specs.Answers.{toldAnswer, toldOpening, toldPassed, toldHolding, toldChecked, endOf}
 use Rattle.chain.specs.declared.Opened.{Opened}
 use Rattle.chain.specs.declared.Opening.{Opening}
 use Rattle.chain.specs.declared.Summary.{Summary}
+use Rattle.chain.specs.declared.Holding.{Holding}
 use Rattle.chain.specs.declared.Checked.{Checked}
 use Rattle.chain.specs.declared.pass.Answer.{Answer}
 use Rattle.chain.specs.declared.pass.Answer.the-variants.{Good, Refused}
@@ -41,6 +42,14 @@ pub passed-faithful : Faithful fixedPassed
 passed-faithful =
     undone fixedPassed (λ f. record { answer = answerOf (f .0); summary = f .1 })
     λ s i. record { answer = answer-back (s .summary) (s .answer) i; summary = s .summary }
+
+abbrev fixedHolding : Holding → Told (Opened × Summary) × (Opened × Summary)
+fixedHolding s = (toldHolding s, (s .opened, s .summary))
+
+pub holding-faithful : Faithful fixedHolding
+holding-faithful =
+    undone fixedHolding (λ f. record { answer = answerOf (f .0); opened = f .1 .0; summary = f .1 .1 })
+    λ s i. record { answer = answer-back {A = Opened × Summary} (s .opened, s .summary) (s .answer) i; opened = s .opened; summary = s .summary }
 
 abbrev fixedChecked : Checked → Told (ℕ × List ℕ) × (ℕ × List ℕ)
 fixedChecked s = (toldChecked s, endOf s)

@@ -8,10 +8,12 @@ use lib.ListN.{length, take}
 use borrow.Author.Tests.{le-leb, lt-leb}
 use Rattle.laws.specs.Told.{Told, gives, refuses}
 use Rattle.laws.proofs.Every.{both-false}
-use Rattle.chain.specs.Chain.{longest, delivered, held, passed, begun, deliveredChain, bad, heldChain}
-use Rattle.chain.specs.Answers.{summaryOr}
+use Rattle.chain.specs.Chain.{longest, delivered, held, passed, begun, deliveredChain, bad, heldChain, with}
+use Rattle.chain.specs.Answers.{toldAnswer, summaryOr, heldOr}
+use Rattle.chain.specs.declared.pass.Answer.{Answer}
 use Rattle.chain.specs.declared.Opened.{Opened}
 use Rattle.chain.specs.declared.Summary.{Summary}
+use Rattle.chain.specs.declared.pass.Answer.the-variants as answer
 
 module _ (o : Opened) (chain verdicts : List ℕ) where
   pub delivered-too-long : longest < length chain → deliveredChain o chain verdicts ≡ refuses 16 0
@@ -39,3 +41,12 @@ module _ (o : Opened) (buffer : List ℕ) (size : ℕ) where
 pub bad-leaves : (o : Opened) (t : Told Summary) → summaryOr o t ≡ summaryOr o (bad t)
 bad-leaves o (gives s) = refl
 bad-leaves o (refuses number place) = refl
+
+-- what is told of a held chain, with what the call was opened with
+pub with-answer : (o : Opened) (s : Summary) (x : Answer) → toldAnswer (o, s) x ≡ with o (toldAnswer s x)
+with-answer o s answer.Good = refl
+with-answer o s (answer.Refused number place) = refl
+
+pub held-with : (o : Opened) (t : Told Summary) → summaryOr o t ≡ heldOr o (with o t)
+held-with o (gives s) = refl
+held-with o (refuses number place) = refl

@@ -16,6 +16,7 @@ use Rattle.chain.specs.declared.judge.Judging.{Judging}
 use Rattle.chain.specs.declared.Opened.{Opened}
 use Rattle.chain.specs.declared.Summary.{Summary}
 use Rattle.chain.specs.declared.Opening.{Opening}
+use Rattle.chain.specs.declared.Holding.{Holding}
 use Rattle.chain.specs.declared.Checked.{Checked}
 use Rattle.genesis.specs.Answers.{noTable}
 use Rattle.chain.specs.declared.pass.Answer.{Answer}
@@ -72,3 +73,10 @@ noEnd = (0, replicate 64 0)
 abbrev pub endOr : Told (ℕ × List ℕ) → ℕ × List ℕ
 endOr (gives e) = e
 endOr (refuses number place) = noEnd
+
+abbrev pub toldHolding : Holding → Told (Opened × Summary)
+toldHolding h = toldAnswer (h .opened, h .summary) (h .answer)
+
+abbrev pub heldOr : Opened → Told (Opened × Summary) → Summary
+heldOr o (gives h) = h .1
+heldOr o (refuses number place) = chain.begun o

@@ -117,6 +117,13 @@ unfoldable pub heldChain : Opened → List ℕ → ℕ → Told Summary
 heldChain o buffer size =
     unless (both (leb size (length buffer)) (leb size longest)) 17 0 (bad (passed o held (take size buffer) (begun o)))
 
+-- what every call on a held chain begins with: 1, 2, 17
+abbrev pub with : Opened → Told Summary → Told (Opened × Summary)
+with o t = then t λ s. gives (o, s)
+
+abbrev pub holding : List ℕ → ℕ → List ℕ → ℕ → Told (Opened × Summary)
+holding genesis clock buffer size = then (opened genesis clock) λ o. with o (heldChain o buffer size)
+
 -- "The answer is the block count and the releases after the last block."
 abbrev pub ending : Told Summary → Told (ℕ × List ℕ)
 ending t = then t λ s. gives (s .whole .count .0, s .whole .releases)

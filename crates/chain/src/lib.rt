@@ -17,7 +17,7 @@ use refusal::LONG;
 ghost use mathlib.Core.Path.{_≡_};
 ghost use Rattle.laws.specs.Told.{refuses};
 ghost use Rattle.chain.specs.Chain as spec;
-ghost use Rattle.chain.specs.Answers.{toldOpening, openedOr, noOpened, toldPassed, summaryOr, toldChecked, endOf, endOr, noEnd};
+ghost use Rattle.chain.specs.Answers.{toldOpening, openedOr, noOpened, toldHolding, heldOr, toldPassed, summaryOr, toldChecked, endOf, endOr, noEnd};
 
 // The most bytes that a chain has.
 pub const LONGEST: usize = 64256;
@@ -58,6 +58,13 @@ pub struct Summary {
 pub enum Way {
     Delivered,
     Held,
+}
+
+// What a call on the held chain begins with. Where it was refused, the summary is that of the chain of no blocks.
+pub struct Holding {
+    pub answer: Answer,
+    pub opened: Opened,
+    pub summary: Summary,
 }
 
 // What the check of a chain answers. The count and the releases are zeros where it was refused.
@@ -146,6 +153,34 @@ fn bad(passed: Passed) -> Passed
             answer: Answer::Refused(HELD, place),
             summary,
         },
+    }
+}
+
+// What every call on a held chain begins with: 1, 2, 17.
+pub fn hold(genesis: &[u8], clock: Slot, buffer: &[u8], length: usize) -> Holding
+    ensures answer { λ r. ⌜ toldHolding r ≡ spec.holding (now (genesis .entry)) (clock .0) (now (buffer .entry)) length ⌝ }
+    ensures opened { λ r. ⌜ r .opened ≡ openedOr (spec.opened (now (genesis .entry)) (clock .0)) ⌝ }
+    ensures summary { λ r. ⌜ r .summary ≡ heldOr (openedOr (spec.opened (now (genesis .entry)) (clock .0))) (toldHolding r) ⌝ }
+{
+    let opening = open(genesis, clock);
+    let answer = opening.answer;
+    let opened = opening.opened;
+    match answer {
+        Answer::Refused(number, place) => beside(opened, refused(opened, number, place)),
+        Answer::Good => beside(opened, held(opened, buffer, length)),
+    }
+}
+
+fn beside(opened: Opened, passed: Passed) -> Holding
+    ensures { λ r. ⌜ toldHolding r ≡ spec.with opened (toldPassed passed) ⌝ }
+    ensures { λ r. ⌜ (r .opened ≡ opened) × (r .summary ≡ passed .summary) ⌝ }
+{
+    let answer = passed.answer;
+    let summary = passed.summary;
+    Holding {
+        answer,
+        opened,
+        summary,
     }
 }
 

@@ -11,3 +11,4 @@ pub mod Repeated
 pub mod Formats
 pub mod Taken
 pub mod Run
+pub mod Fold

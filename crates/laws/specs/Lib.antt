@@ -8,3 +8,4 @@ pub mod Answers
 pub mod Repeated
 pub mod Bytes
 pub mod Run
+pub mod Fold
