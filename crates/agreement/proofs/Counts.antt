@@ -1,13 +1,11 @@
 -- Counting slots that pass a test: one slot more, counts from slot 0, and all slots in a window.
 -- Assumes nothing.
-use mathlib.Core.Path.{_≡_, refl, ap}
+use Prim.Native.Nat.{ℕ, zero, suc, _+_, _≤_}
+use mathlib.Core.Path.{_≡_, refl, ap, _∙_}
 use mathlib.Core.Bool.{Bool, true, false, not}
-use Prim.Native.Nat.{ℕ, zero, suc, _+_, _≤_, _<_}
 use native.Mathlib.Omega.{arith}
 use borrow.Author.Tests.{le-leb, lt-leb}
 use Rattle.laws.specs.Pick.{pick}
-use Rattle.laws.specs.Every.{both}
-use Rattle.laws.proofs.Every.{both-false}
 use Rattle.laws.proofs.Cases.{lt-cases}
 use Rattle.agreement.specs.Core.{howMany}
 
@@ -33,6 +31,12 @@ module _ (test : ℕ → Bool) where
   pub one-more : (a b : ℕ) → a ≤ b → howMany test a (suc b) ≡ pick (test (suc b)) 1 0 + howMany test a b
   unfolding howMany
   one-more a b h = rw (le-leb a b h)
+
+  pub one-passes : (a b : ℕ) → a ≤ b → test (suc b) ≡ true → howMany test a (suc b) ≡ suc (howMany test a b)
+  one-passes a b h e = one-more a b h ∙ rw e (omega arith)
+
+  pub one-fails : (a b : ℕ) → a ≤ b → test (suc b) ≡ false → howMany test a (suc b) ≡ howMany test a b
+  one-fails a b h e = one-more a b h ∙ rw e (omega arith)
 
   -- a window from a to b, as the difference of two counts from 0
   pub between : (a b : ℕ) → a ≤ b → howMany test 0 a + howMany test a b ≡ howMany test 0 b

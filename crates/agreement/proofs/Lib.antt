@@ -1,2 +1,7 @@
 pub mod Counts
 pub mod Windows
+pub mod Chains
+pub mod Growth
+pub mod Common
+pub mod Agree
+pub mod Theorems

@@ -32,20 +32,30 @@ howMany test a (suc b) = pick (both (leb a b) (test (suc b))) 1 0 + howMany test
 abbrev pub goodBetween : Setting → ℕ → ℕ → ℕ
 goodBetween s = howMany (s .good)
 
+abbrev pub bad : Setting → ℕ → Bool
+bad s i = not (s .good i)
+
 abbrev pub badBetween : Setting → ℕ → ℕ → ℕ
-badBetween s = howMany (λ i. not (s .good i))
+badBetween s = howMany (bad s)
 
 -- fewer than a third of any window of at least `depth` slots are bad
 abbrev pub Windows : Setting → ℕ → Type 0
 Windows s depth = (from slots : ℕ) → depth ≤ slots → from + slots ≤ s .end → 3 * badBetween s from (from + slots) < slots
 
--- `n` controllers take turns, enough for `t` faulty ones, and no more than `t` are faulty
+-- controllers enough for t faulty ones
+abbrev pub Enough : ℕ → ℕ → Type 0
+Enough n t = 5 * t + 1 ≤ n
+
+-- n controllers take turns, and no more than t of them are faulty
 pub record Turns (s : Setting) (n t : ℕ) (faulty : ℕ → Bool) : Type 0 where
-  pub enough : 5 * t + 1 ≤ n
+  pub enough : Enough n t
   pub few : howMany faulty 0 n ≤ t
   pub turn : (j : ℕ) → 1 ≤ j → j ≤ s .end → s .good j ≡ not (faulty ((j - 1) % n + 1))
 
 -- ---- chains
+abbrev pub Begins : {A : Type 0} → List A → List A → Type 0
+Begins {A} front whole = (rest : List A) × (whole ≡ front ++ rest)
+
 -- each stamp is above the one before it, the first above `last`
 abbrev pub Rises : (s : Setting) → ℕ → List (s .Block) → Type 0
 Rises s last [] = Unit {0}
@@ -56,11 +66,19 @@ unfoldable pub settled : (s : Setting) → ℕ → ℕ → List (s .Block) → L
 settled s depth j [] = []
 settled s depth j (b ∷ c) = pick (ltb (s .stamp b + depth) j) (b ∷ settled s depth j c) []
 
--- what a correct controller can hold at slot j after all deliveries: no shorter than what was issued in good slots before
+-- every stamp is below slot j
+abbrev pub Below : (s : Setting) → ℕ → List (s .Block) → Type 0
+Below s j = Each (λ b. s .stamp b < j)
+
+-- no shorter than any chain issued in a good slot before j
+abbrev pub Long : (s : Setting) → ℕ → List (s .Block) → Type 0
+Long s j c = (i : ℕ) → s .good i ≡ true → 1 ≤ i → i < j → length (s .issued i) ≤ length c
+
+-- what a correct controller can hold at slot j after all deliveries
 pub record Viable (s : Setting) (j : ℕ) (c : List (s .Block)) : Type 0 where
   pub passes : s .valid c
-  pub below : Each (λ b. s .stamp b < j) c
-  pub long : (i : ℕ) → s .good i ≡ true → 1 ≤ i → i < j → length (s .issued i) ≤ length c
+  pub below : Below s j c
+  pub long : Long s j c
 
 -- the chain issued in good slot i: a block stamped i behind a chain that its controller held
 pub record Issue (s : Setting) (i : ℕ) : Type 0 where

@@ -1,0 +1,75 @@
+-- Lists of blocks: what holds of each block, the last block, and the settled blocks at the front.
+-- Assumes nothing.
+use Prim.Native.Nat.{ℕ, _+_, _≤_, _<_}
+use mathlib.Core.Path.{_≡_, refl, ap}
+use mathlib.Core.Bool.{Bool, true, false}
+use mathlib.Core.List.{List, [], _∷_, _++_}
+use native.Mathlib.Omega.{arith}
+use lib.Dec.{ltb}
+use borrow.Author.Tests.{lt-ltb, le-ltb}
+use Rattle.laws.specs.Pick.{pick}
+use Rattle.laws.specs.Format.{Each}
+use Rattle.laws.proofs.Cases.{lt-cases}
+use Rattle.agreement.specs.Core.{Setting, Begins, Rises, settled}
+
+module _ {A : Type 0} where
+  pub each-weaker : {P Q : A → Type 0} → ((a : A) → P a → Q a) → (l : List A) → Each P l → Each Q l
+  each-weaker weaker [] each = tt
+  each-weaker weaker (a ∷ l) (fine, each) = (weaker a fine, each-weaker weaker l each)
+
+  pub each-join : (P : A → Type 0) (l m : List A) → Each P l → Each P m → Each P (l ++ m)
+  each-join P [] m left right = right
+  each-join P (a ∷ l) m (fine, left) right = (fine, each-join P l m left right)
+
+  pub each-right : (P : A → Type 0) (l m : List A) → Each P (l ++ m) → Each P m
+  each-right P [] m each = each
+  each-right P (a ∷ l) m (fine, each) = each-right P l m each
+
+  -- a list is empty or has a last element
+  pub data Ends : List A → Type 0 where
+    nothing : Ends []
+    last : (l : List A) (a : A) → Ends (l ++ (a ∷ []))
+
+  pub ends : (l : List A) → Ends l
+  ends [] = nothing
+  ends (a ∷ l) = more a l (ends l)
+    where
+      more : (a : A) (l : List A) → Ends l → Ends (a ∷ l)
+      more a l nothing = last [] a
+      more a l (last m b) = last (a ∷ m) b
+
+module _ (s : Setting) where
+  -- in front of the last block all stamps are below its own
+  pub rises-to : (least : ℕ) (u : List (s .Block)) (b : s .Block) → Rises s least (u ++ (b ∷ []))
+      → (least < s .stamp b) × Each (λ a. s .stamp a < s .stamp b) u
+  rises-to least [] b (h, t) = (h, tt)
+  rises-to least (a ∷ u) b (h, t) = let (low, each) = rises-to (s .stamp a) u b t in (omega arith, (low, each))
+
+  module _ (depth : ℕ) where
+    -- settled blocks are the front of the chain
+    pub settled-front : (j : ℕ) (c : List (s .Block)) → Begins (settled s depth j c) c
+    unfolding settled
+    settled-front j [] = ([], refl)
+    settled-front j (b ∷ c) = by-test (ltb (s .stamp b + depth) j) (settled-front j c)
+      where
+        by-test : (β : Bool) → Begins (settled s depth j c) c → Begins (pick β (b ∷ settled s depth j c) []) (b ∷ c)
+        by-test true (rest, e) = (rest, ap (λ l. b ∷ l) e)
+        by-test false (rest, e) = (b ∷ c, refl)
+
+    -- blocks that are not settled change nothing
+    pub settled-part : (j : ℕ) (u v : List (s .Block)) → Each (λ b. j ≤ s .stamp b + depth) v → settled s depth j (u ++ v) ≡ settled s depth j u
+    unfolding settled
+    settled-part j [] [] each = refl
+    settled-part j [] (b ∷ v) (h, each) = rw (le-ltb (s .stamp b + depth) j h)
+    settled-part j (a ∷ u) v each = rw (settled-part j u v each)
+
+    pub issued-unsettled : (j : ℕ) (c : List (s .Block)) (b : s .Block) → s .stamp b ≡ j → settled s depth j (c ++ (b ∷ [])) ≡ settled s depth j c
+    issued-unsettled j c b h = settled-part j c (b ∷ []) (omega arith, tt)
+
+    -- what is settled earlier is settled later
+    pub settled-earlier : (j j′ : ℕ) (c : List (s .Block)) → j ≤ j′ → settled s depth j (settled s depth j′ c) ≡ settled s depth j c
+    unfolding settled
+    settled-earlier j j′ [] h = refl
+    settled-earlier j j′ (b ∷ c) h =
+        let place = s .stamp b + depth in
+        lt-cases place j′ (λ in-it. rw (lt-ltb place j′ in-it, settled-earlier j j′ c h)) (λ past. rw (le-ltb place j′ past, le-ltb place j (omega arith)))
