@@ -10,7 +10,7 @@ use borrow.Author.Tests.{lt-ltb, le-ltb}
 use Rattle.laws.specs.Pick.{pick}
 use Rattle.laws.specs.Format.{Each}
 use Rattle.laws.proofs.Cases.{lt-cases}
-use Rattle.agreement.specs.Core.{Setting, Begins, Rises, settled}
+use Rattle.agreement.specs.Core.{Setting, Begins, Rises, settled, Parted}
 
 module _ {A : Type 0} where
   pub each-weaker : {P Q : A → Type 0} → ((a : A) → P a → Q a) → (l : List A) → Each P l → Each Q l
@@ -45,6 +45,10 @@ module _ (s : Setting) where
   rises-to least [] b (h, t) = (h, tt)
   rises-to least (a ∷ u) b (h, t) = let (low, each) = rises-to (s .stamp a) u b t in (omega arith, (low, each))
 
+  rises-above : (least : ℕ) (c : List (s .Block)) → Rises s least c → Each (λ b. least < s .stamp b) c
+  rises-above least [] rises = tt
+  rises-above least (b ∷ c) (h, rises) = (h, each-weaker (λ a above. omega arith) c (rises-above (s .stamp b) c rises))
+
   module _ (depth : ℕ) where
     -- settled blocks are the front of the chain
     pub settled-front : (j : ℕ) (c : List (s .Block)) → Begins (settled s depth j c) c
@@ -73,3 +77,14 @@ module _ (s : Setting) where
     settled-earlier j j′ (b ∷ c) h =
         let place = s .stamp b + depth in
         lt-cases place j′ (λ in-it. rw (lt-ltb place j′ in-it, settled-earlier j j′ c h)) (λ past. rw (le-ltb place j′ past, le-ltb place j (omega arith)))
+
+    -- where stamps rise, a block that is not settled has none behind it that is
+    pub settled-parts : (j least : ℕ) (c : List (s .Block)) → Rises s least c → Parted s depth j (settled s depth j c) c
+    unfolding settled
+    settled-parts j least [] rises = ([], refl, tt, tt)
+    settled-parts j least (b ∷ c) (h, rises) =
+        lt-cases (s .stamp b + depth) j
+        (λ below. let (rest, e, front, behind) = settled-parts j (s .stamp b) c rises in
+        rw (lt-ltb (s .stamp b + depth) j below) (rest, ap (λ l. b ∷ l) e, (below, front), behind))
+        (λ past. rw (le-ltb (s .stamp b + depth) j past)
+        (b ∷ c, refl, tt, (past, each-weaker (λ a above. omega arith) c (rises-above (s .stamp b) c rises))))

@@ -8,11 +8,15 @@ use mathlib.Core.Path.{_≡_}
 use mathlib.Core.Bool.{Bool}
 use mathlib.Core.List.{List, [], _∷_, _++_}
 use lib.ListN.{length}
-use Rattle.agreement.specs.Core.{Setting, goodBetween, Windows, Turns, Begins, settled, Viable, Laws}
+use Rattle.agreement.specs.Core.{Setting, goodBetween, Windows, Turns, Begins, settled, Parted, Viable, Laws}
 use Rattle.agreement.proofs.Windows.{windows}
-use Rattle.agreement.proofs.Chains.{issued-unsettled}
+use Rattle.agreement.proofs.Chains.{settled-parts, issued-unsettled}
 use Rattle.agreement.proofs.Growth.{growth, some-viable}
 use Rattle.agreement.proofs.Agree.{same-slot, later-chain, later-settled}
+
+-- section 1: what `settled` takes from the front of a valid chain is every block with stamp + depth below j
+pub settled-blocks-are-the-front : (s : Setting) → Laws s → (depth j : ℕ) (c : List (s .Block)) → s .valid c → Parted s depth j (settled s depth j c) c
+settled-blocks-are-the-front s laws depth j c passes = settled-parts s depth j 0 c (laws .rises c passes)
 
 -- section 4; another depth only brings another theorem in this one's place
 pub fewer-than-a-third-are-bad : (s : Setting) (n t : ℕ) (faulty : ℕ → Bool) → Turns s n t faulty → Windows s (3 * t + 1)

@@ -66,6 +66,11 @@ unfoldable pub settled : (s : Setting) → ℕ → ℕ → List (s .Block) → L
 settled s depth j [] = []
 settled s depth j (b ∷ c) = pick (ltb (s .stamp b + depth) j) (b ∷ settled s depth j c) []
 
+-- the front of a chain has all its blocks with stamp + depth below j, and no other
+abbrev pub Parted : (s : Setting) → ℕ → ℕ → (front whole : List (s .Block)) → Type 0
+Parted s depth j front whole =
+    (rest : List (s .Block)) × (whole ≡ front ++ rest) × Each (λ b. s .stamp b + depth < j) front × Each (λ b. j ≤ s .stamp b + depth) rest
+
 -- every stamp is below slot j
 abbrev pub Below : (s : Setting) → ℕ → List (s .Block) → Type 0
 Below s j = Each (λ b. s .stamp b < j)
