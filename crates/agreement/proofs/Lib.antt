@@ -5,3 +5,4 @@ pub mod Growth
 pub mod Common
 pub mod Agree
 pub mod Theorems
+pub mod Example
