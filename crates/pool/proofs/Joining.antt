@@ -1,0 +1,54 @@
+-- An order behind the entries that count: each way it may go.
+-- Assumes nothing.
+use Prim.Native.Nat.{_+_, _<_, _≤_}
+use mathlib.Core.Path.{_≡_, sym, ap}
+use mathlib.Core.Bool.{true, false}
+use mathlib.Core.List.{List, [], _∷_, _++_}
+use native.Mathlib.Omega.{arith}
+use lib.ListN.{length, set, length-append}
+use lib.Seq.{take-append-seam, length-take-le, take-all}
+use borrow.Author.Tests.{lt-ltb, le-ltb}
+use Rattle.laws.specs.Told.{gives, refuses}
+use Rattle.laws.proofs.Cases.{lt-cases}
+use Rattle.laws.proofs.Fold.{those-fewer, tailed-add}
+use Rattle.order.specs.Order.{displays, valid}
+use Rattle.order.specs.declared.Order.{Order}
+use Rattle.chain.specs.declared.Opened.{Opened}
+use Rattle.chain.specs.declared.Summary.{Summary}
+use Rattle.pool.specs.Pool.{room, noEntry, entriesIn, poolOf, counts, counting, ordersOf, taking, joined}
+use Rattle.pool.specs.declared.Entry.{Entry}
+use Rattle.pool.specs.declared.Pool.{Pool}
+
+-- a pool of entries holds these
+pub entries-of : (l : List Entry) → entriesIn (poolOf l) ≡ l
+entries-of l = take-append-seam l _
+
+pub pool-add : (l : List Entry) (e : Entry) → length l < room
+    → record { count = length l + 1; entries = set (poolOf l .entries) (length l) e } ≡ poolOf (l ++ (e ∷ []))
+pool-add l e less =
+    let counts : length l + 1 ≡ length (l ++ (e ∷ [])) = sym (length-append l (e ∷ [])) in
+    λ i. record { count = counts i; entries = tailed-add room noEntry l e less i }
+
+-- no more count than there are
+pub counting-few : (o : Opened) (held : Summary) (p : Pool) → length (p .entries) ≡ room → length (counting o held p) ≤ room
+counting-few o held p long =
+    let some : length (entriesIn p) ≤ room =
+    lt-cases room (p .count)
+    (λ more. omega (arith, ap length (take-all (p .count) (p .entries) (omega arith))))
+    (λ few. omega (arith, length-take-le (p .count) (p .entries) (omega arith))) in
+    omega (arith, those-fewer (counts o held) (entriesIn p))
+
+module _ (o : Opened) (held : Summary) (l : List Entry) (order : Order) where
+  pub no-display : displays ≤ order .display → joined o held l order ≡ refuses 5 0
+  no-display h = rw (le-ltb (order .display) displays h)
+
+  module _ (inside : order .display < displays) where
+    pub not-valid : valid (taking room (held .whole .releases) (ordersOf l) .releases) order ≡ false → joined o held l order ≡ refuses 14 0
+    not-valid e = rw (e, lt-ltb (order .display) displays inside)
+
+    module _ (fine : valid (taking room (held .whole .releases) (ordersOf l) .releases) order ≡ true) where
+      pub full : room ≤ length l → joined o held l order ≡ refuses 13 0
+      full h = rw (fine, lt-ltb (order .display) displays inside, le-ltb (length l) room h)
+
+      pub joins : length l < room → joined o held l order ≡ gives (poolOf (l ++ (record { order = order; slot = o .clock } ∷ [])))
+      joins h = rw (fine, lt-ltb (order .display) displays inside, lt-ltb (length l) room h)

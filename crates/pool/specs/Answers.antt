@@ -1,0 +1,24 @@
+-- What the answers of this crate tell.
+-- Assumes nothing.
+use Prim.Native.Nat.{ℕ}
+use mathlib.Core.List.{List}
+use lib.ListN.{length, take}
+use Rattle.laws.specs.Told.{Told, gives, refuses}
+use Rattle.laws.specs.Tabulate.{tailed}
+use Rattle.chain.specs.Answers.{toldAnswer}
+use Rattle.pool.specs.Pool.{Taking, room, noEntry}
+use Rattle.pool.specs.declared.Offered.{Offered}
+use Rattle.pool.specs.declared.Pool.{Pool}
+use Rattle.pool.specs.declared.Taken.{Taken}
+
+abbrev pub toldOffered : Offered → Told Pool
+toldOffered r = toldAnswer (r .pool) (r .answer)
+
+-- a refusal leaves the pool as it came
+abbrev pub poolOr : Pool → Told Pool → Pool
+poolOr before (gives p) = p
+poolOr before (refuses number place) = before
+
+-- orders that were taken, in a list of 64 with zeros behind them
+abbrev pub takenOf : Taking → Taken
+takenOf t = record { count = length (t .orders); orders = tailed room (noEntry .order) (t .orders); releases = t .releases }

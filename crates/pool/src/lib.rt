@@ -1,0 +1,242 @@
+// The order pool (01, "Pool an order"), in pieces: judge it, keep what counts, take what is valid, add a last entry.
+use chain::Answer;
+use chain::Opened;
+use chain::Summary;
+use number::within;
+use order::BlockCount;
+use order::DISPLAYS;
+use order::Order;
+use order::Release;
+use order::Slot;
+use refusal::OFFER;
+use refusal::POOL;
+use refusal::POOL_FULL;
+use refusal::RANGE;
+ghost use mathlib.Core.Path.{_≡_};
+ghost use Prim.Native.Nat.{_+_, _<_};
+ghost use lib.Dec.{leb};
+ghost use lib.ListN.{set};
+ghost use Rattle.laws.specs.Pick.{pick};
+ghost use Rattle.laws.specs.Told.{refuses};
+ghost use Rattle.pool.specs.Pool as spec;
+ghost use Rattle.pool.specs.Answers.{toldOffered, poolOr, takenOf};
+
+// How many entries a pool has room for.
+pub const ROOM: u32 = 64;
+
+#[repr(C)]
+pub struct Entry {
+    pub order: Order,
+    // the slot in which it was pooled
+    pub slot: Slot,
+}
+
+// Any pool may be handed in.
+#[repr(C)]
+pub struct Pool {
+    pub count: u32,
+    pub entries: [Entry; 64],
+}
+
+// Orders that were taken, zeros behind them, and the releases after them.
+pub struct Taken {
+    pub count: u32,
+    pub orders: [Order; 64],
+    pub releases: [Release; 64],
+}
+
+// What pooling answers: the pool as it then is, which is as it came where the order was refused.
+pub struct Offered {
+    pub answer: Answer,
+    pub pool: Pool,
+}
+
+// Whether a pool is one that the calls go on with.
+pub fn fits(clock: Slot, pool: Pool) -> bool
+    ensures { λ r. ⌜ r ≡ spec.poolFits (clock .0) pool ⌝ }
+{
+    if ROOM < pool.count {
+        return false;
+    }
+    let count = pool.count as usize;
+    let entries = pool.entries;
+    let mut i = 0;
+    while i < count {
+        let entry = entries[i];
+        if !entry_fits(clock, entry) {
+            return false;
+        }
+        i += 1;
+    }
+    true
+}
+
+fn entry_fits(clock: Slot, entry: Entry) -> bool
+    ensures { λ r. ⌜ r ≡ spec.entryFits (clock .0) entry ⌝ }
+{
+    if DISPLAYS <= entry.order.display as usize {
+        return false;
+    }
+    within(1, entry.slot.0, clock.0)
+}
+
+// Whether an entry still counts.
+fn counts(opened: Opened, held: Summary, entry: Entry) -> bool
+    ensures { λ r. ⌜ r ≡ spec.counts opened held entry ⌝ }
+{
+    (opened.clock.0 as u64) < entry.slot.0 as u64 + opened.table.u as u64
+}
+
+// The entries that count, in their order.
+pub fn counting(opened: Opened, held: Summary, pool: Pool) -> Pool
+    ensures { λ r. ⌜ r ≡ spec.poolOf (spec.counting opened held pool) ⌝ }
+{
+    let most = least(pool.count);
+    let all = pool.entries;
+    let none = none();
+    let mut entries = [none; 64];
+    let mut count: usize = 0;
+    let mut i = 0;
+    while i < most {
+        let entry = all[i];
+        i += 1;
+        if counts(opened, held, entry) {
+            entries[count] = entry;
+            count += 1;
+        }
+    }
+    Pool {
+        count: count as u32,
+        entries,
+    }
+}
+
+// A count, as far as there are entries.
+fn least(count: u32) -> usize
+    ensures { λ r. ⌜ r ≡ pick (leb count spec.room) count spec.room ⌝ }
+{
+    if count <= ROOM {
+        return count as usize;
+    }
+    ROOM as usize
+}
+
+fn none() -> Entry
+    ensures { λ r. ⌜ r ≡ spec.noEntry ⌝ }
+{
+    Entry {
+        order: Order {
+            display: 0,
+            expected: 0,
+            new: 0,
+        },
+        slot: Slot(0),
+    }
+}
+
+// Takes the orders of a pool one after the other, each that is valid at that point, until so many are taken.
+pub fn take(pool: Pool, releases: [Release; 64], limit: u32) -> Taken
+    ensures { λ r. ⌜ r ≡ takenOf (spec.taking limit releases (spec.ordersOf (spec.entriesIn pool))) ⌝ }
+{
+    let most = least(pool.count);
+    let entries = pool.entries;
+    let mut releases = releases;
+    let order = none().order;
+    let mut orders = [order; 64];
+    let mut count: usize = 0;
+    let mut i = 0;
+    while i < most {
+        let entry = entries[i];
+        let order = entry.order;
+        i += 1;
+        if count < limit as usize {
+            if order::take(&mut releases, order) {
+                orders[count] = order;
+                count += 1;
+            }
+        }
+    }
+    Taken {
+        count: count as u32,
+        orders,
+        releases,
+    }
+}
+
+// Offers an order to the pool.
+pub fn offer(
+    genesis: &[u8],
+    clock: Slot,
+    held: &[u8],
+    length: usize,
+    pool: Pool,
+    order: Order,
+) -> Offered
+    ensures answer { λ r. ⌜ toldOffered r ≡ spec.offered (now (genesis .entry)) (clock .0) (now (held .entry)) length pool order ⌝ }
+    ensures pool { λ r. ⌜ r .pool ≡ poolOr pool (spec.offered (now (genesis .entry)) (clock .0) (now (held .entry)) length pool order) ⌝ }
+{
+    let holding = chain::hold(genesis, clock, held, length);
+    let answer = holding.answer;
+    let opened = holding.opened;
+    let summary = holding.summary;
+    match answer {
+        Answer::Refused(number, place) => refused(number, place, pool),
+        Answer::Good => {
+            if !fits(opened.clock, pool) {
+                return refused(POOL, BlockCount(0), pool);
+            }
+            let kept = counting(opened, summary, pool);
+            join(opened, summary, pool, kept, order)
+        }
+    }
+}
+
+fn refused(number: u32, place: BlockCount, pool: Pool) -> Offered
+    ensures { λ r. ⌜ (toldOffered r ≡ refuses number (place .0)) × (r .pool ≡ pool) ⌝ }
+{
+    Offered {
+        answer: Answer::Refused(number, place),
+        pool,
+    }
+}
+
+// An order behind the entries that count: 5, 14, 13.
+fn join(opened: Opened, held: Summary, pool: Pool, kept: Pool, order: Order) -> Offered
+    requires { ⌜ kept ≡ spec.poolOf (spec.counting opened held pool) ⌝ }
+    ensures { λ r. ⌜ toldOffered r ≡ spec.joined opened held (spec.counting opened held pool) order ⌝ }
+    ensures { λ r. ⌜ r .pool ≡ poolOr pool (toldOffered r) ⌝ }
+{
+    if DISPLAYS <= order.display as usize {
+        return refused(RANGE, BlockCount(0), pool);
+    }
+    let whole = held.whole;
+    let before = whole.releases;
+    let taken = take(kept, before, ROOM);
+    let releases = taken.releases;
+    if !order::valid(&releases, order) {
+        return refused(OFFER, BlockCount(0), pool);
+    }
+    if ROOM <= kept.count {
+        return refused(POOL_FULL, BlockCount(0), pool);
+    }
+    let slot = opened.clock;
+    let entry = Entry { order, slot };
+    let joined = added(kept, entry);
+    Offered {
+        answer: Answer::Good,
+        pool: joined,
+    }
+}
+
+fn added(pool: Pool, entry: Entry) -> Pool
+    requires { ⌜ pool .count < spec.room ⌝ }
+    ensures { λ r. ⌜ r ≡ record { count = pool .count + 1; entries = set (pool .entries) (pool .count) entry } ⌝ }
+{
+    let count = pool.count as usize;
+    let mut entries = pool.entries;
+    entries[count] = entry;
+    Pool {
+        count: pool.count + 1,
+        entries,
+    }
+}
