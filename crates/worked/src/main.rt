@@ -1,5 +1,7 @@
 // Runs the cases of standard input through the library and prints what it answers, a case a line. The form of a case is in SOURCE.md.
+mod adoptions;
 mod blocks;
+mod chains;
 mod fields;
 mod orders;
 mod print;
@@ -102,6 +104,12 @@ fn answer(line: &[u8]) {
         return;
     }
     if walks::answer(op, line) {
+        return;
+    }
+    if chains::answer(op, line) {
+        return;
+    }
+    if adoptions::answer(op, line) {
         return;
     }
     print::text(b"no such op");

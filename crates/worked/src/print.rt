@@ -20,8 +20,12 @@ pub fn value(word: &[u8], value: u64) {
 
 // A refusal with no place.
 pub fn refused(number: u32) {
+    refused_at(number, 0);
+}
+
+pub fn refused_at(number: u32, place: u32) {
     value(b"refused", number as u64);
-    text(b" 0");
+    value(b"", place as u64);
 }
 
 // Bytes in the form of a case's field: pieces of hexadecimal digits, where a byte that stands four times or more is written once.
