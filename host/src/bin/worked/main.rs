@@ -3,6 +3,7 @@
 //! written.
 mod blocks;
 mod case;
+mod chance;
 mod orders;
 mod random;
 mod tables;
