@@ -3,7 +3,11 @@
 //! written.
 mod blocks;
 mod case;
+mod chains;
 mod chance;
+mod faults;
+mod held;
+mod judging;
 mod orders;
 mod random;
 mod tables;
@@ -23,6 +27,9 @@ fn document() -> Vec<Section> {
         blocks::sections(),
         writes::sections(),
         walks::sections(),
+        chains::sections(),
+        judging::sections(),
+        held::sections(),
     ]
     .into_iter()
     .flatten()

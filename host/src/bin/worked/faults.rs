@@ -1,0 +1,109 @@
+//! What the cases of the calls on chains are made of: the samples' arguments of a call, with a fault or two in them.
+pub use host::second::samples::Case as Arguments;
+use host::second::samples::{self, adopting_faults, Edit, EDITS};
+use host::second::Refusal;
+
+/// A refusal of a block, counted from 1.
+pub fn at(number: u32, place: usize) -> Refusal {
+    Refusal {
+        number,
+        place: place as u32,
+    }
+}
+
+/// The samples' first fault of one block that meets this number.
+pub fn edit(number: u32) -> &'static Edit {
+    EDITS.iter().find(|edit| edit.number == number).unwrap()
+}
+
+/// The sample chain with a fault in one of its blocks, to which the next is linked.
+pub fn with_edit(edit: &Edit, place: usize) -> Vec<u8> {
+    samples::edited_chain(&samples::table(), &samples::blocks(), place, edit.change)
+}
+
+/// The first, the middle and the last block of the sample chain, with a fault of each number from 4 to 10 where it can be had. 8 is no
+/// fault of the bytes.
+pub fn bad_blocks() -> impl Iterator<Item = (String, Vec<u8>, Refusal)> {
+    let faults = [1, 3, 5]
+        .into_iter()
+        .flat_map(|place| [4, 5, 6, 7, 9, 10].map(|number| (place, number)));
+    faults
+        .filter(|fault| *fault != (1, 6))
+        .map(|(place, number)| {
+            let edit = edit(number);
+            let name = format!("{} in block {place}", edit.name);
+            (name, with_edit(edit, place), at(number, place))
+        })
+}
+
+/// Blocks without orders at these stamps, as a chain.
+pub fn stamped(stamps: &[u32]) -> Vec<u8> {
+    samples::chain(&samples::table(), &samples::empty_blocks(stamps))
+}
+
+/// The tables of `bad_openings`, by the samples' names.
+const TABLES: [&str; 4] = [
+    "n = 5, t = 1, u = 1",
+    "n = 257, t = 0, u = 1",
+    "cut to 0 bytes",
+    "a byte after",
+];
+
+/// Genesis bytes and clock readings that meet 1 and 2.
+pub fn bad_openings() -> Vec<(String, Arguments, u32)> {
+    let mut bad = Vec::new();
+    for (fault, genesis) in samples::bad_geneses() {
+        if TABLES.contains(&&fault[..]) {
+            let given = Arguments {
+                genesis,
+                ..Arguments::good()
+            };
+            bad.push((format!("genesis: {fault}"), given, 1));
+        }
+    }
+    for now in samples::BAD_NOWS {
+        let given = Arguments {
+            now,
+            ..Arguments::good()
+        };
+        bad.push((format!("now {}", now.0), given, 2));
+    }
+    bad
+}
+
+/// Two faults at once: their numbers in 01's order, and the refusal of the first.
+pub struct Pair {
+    pub numbers: [u32; 2],
+    pub given: Arguments,
+    pub refused: Refusal,
+}
+
+impl Pair {
+    pub fn name(&self) -> String {
+        format!("{} and {}", self.numbers[0], self.numbers[1])
+    }
+
+    /// Whether both faults are among these.
+    pub fn among(&self, numbers: &[u32]) -> bool {
+        self.numbers.iter().all(|number| numbers.contains(number))
+    }
+}
+
+/// Every two of adoption's faults. The fault of a stamp is 6 or 7, as asked for.
+pub fn pairs(stamp: u32) -> Vec<Pair> {
+    let faults = adopting_faults(stamp);
+    let mut pairs = Vec::new();
+    for (place, (refused, earlier)) in faults.iter().enumerate() {
+        for (also, later) in &faults[place + 1..] {
+            let mut given = Arguments::good();
+            later(&mut given);
+            earlier(&mut given);
+            pairs.push(Pair {
+                numbers: [refused.number, also.number],
+                given,
+                refused: *refused,
+            });
+        }
+    }
+    pairs
+}
