@@ -107,3 +107,18 @@ pub fn pairs(stamp: u32) -> Vec<Pair> {
     }
     pairs
 }
+
+/// Each of adoption's faults together with all that come after it.
+pub fn with_all_after(stamp: u32) -> Vec<(String, Arguments, Refusal)> {
+    let faults = adopting_faults(stamp);
+    let from = |first: usize| {
+        let mut given = Arguments::good();
+        for (_, fault) in faults[first..].iter().rev() {
+            fault(&mut given);
+        }
+        let refused = faults[first].0;
+        let name = format!("{} and all that come after it", refused.number);
+        (name, given, refused)
+    };
+    (0..faults.len() - 1).map(from).collect()
+}

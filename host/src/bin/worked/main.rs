@@ -1,10 +1,12 @@
 //! Writes the cases that the program `worked` is run on (`input`) and what it must print (`output`). The answers are those of the second
 //! implementation; where 01 or a reading of it gives an answer by hand, the case holds it, and the two are compared before anything is
 //! written.
+mod adoptions;
 mod blocks;
 mod case;
 mod chains;
 mod chance;
+mod choices;
 mod faults;
 mod held;
 mod judging;
@@ -30,6 +32,8 @@ fn document() -> Vec<Section> {
         chains::sections(),
         judging::sections(),
         held::sections(),
+        choices::sections(),
+        adoptions::sections(),
     ]
     .into_iter()
     .flatten()
