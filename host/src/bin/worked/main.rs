@@ -7,6 +7,7 @@ mod case;
 mod chains;
 mod chance;
 mod choices;
+mod exchanges;
 mod faults;
 mod held;
 mod judging;

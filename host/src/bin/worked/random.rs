@@ -2,9 +2,13 @@
 //! implementation beyond the stored cases.
 use host::second::samples::FILLER;
 
+use crate::adoptions::Adopt;
 use crate::blocks::{Body, Read};
 use crate::case::{boxed_case, Case, Op, Section};
+use crate::chains::Check;
 use crate::chance::Chance;
+use crate::choices::Choose;
+use crate::held::Held;
 use crate::orders::{At, Take, Valid};
 use crate::tables::{Depth, Key, Table, Turn};
 use crate::walks::Steps;
@@ -50,7 +54,7 @@ impl Chance {
         let at = self.place(block.len());
         let order = self.order();
         let release = self.of(&[order.expected, order.expected, order.new]);
-        match self.below(12) {
+        match self.below(18) {
             0 => Box::new(Valid(At { release, order })),
             1 => Box::new(Take(At { release, order })),
             2 => Box::new(Table(table)),
@@ -65,12 +69,16 @@ impl Chance {
                 0 => Box::new(Length(self.parts())),
                 _ => Box::new(SlotText(self.within(1, 256), vec![FILLER; self.below(9)])),
             },
-            _ => {
+            11 => {
                 let chain = self.chain();
                 let chain = self.faulty(chain);
                 let at = self.place(chain.len());
                 Box::new(Steps(chain, at))
             }
+            12 | 13 => Box::new(Check(self.exchange())),
+            14 => Box::new(Held(self.exchange())),
+            15 => Box::new(Choose(self.exchange())),
+            _ => Box::new(Adopt(self.exchange())),
         }
     }
 }
