@@ -1,3 +1,4 @@
 pub mod Pools
 pub mod Joining
+pub mod Takings
 pub mod Answers
