@@ -1,0 +1,22 @@
+-- What the answers of this crate tell.
+-- Assumes nothing.
+use Prim.Native.Nat.{ℕ}
+use lib.ListN.{replicate}
+use mathlib.Core.List.{[]}
+use Rattle.laws.specs.Told.{Told, gives, refuses}
+use Rattle.block.specs.Answers.{listed}
+use Rattle.block.specs.declared.Front.{Front}
+use Rattle.chain.specs.Answers.{toldAnswer}
+use Rattle.issue.specs.declared.Fronted.{Fronted}
+use Rattle.issue.specs.declared.Issued.{Issued}
+
+abbrev pub toldFronted : Fronted → Told Front
+toldFronted r = toldAnswer (r .front) (r .answer)
+
+abbrev pub toldIssued : Issued → Told ℕ
+toldIssued r = toldAnswer (r .length) (r .answer)
+
+-- a refusal leaves a length of 0
+abbrev pub lengthOr : Told ℕ → ℕ
+lengthOr (gives length) = length
+lengthOr (refuses number place) = 0

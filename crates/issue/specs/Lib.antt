@@ -1,0 +1,2 @@
+pub mod Issue
+pub mod Answers
