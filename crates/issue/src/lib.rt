@@ -18,10 +18,12 @@ use refusal::SHORT;
 use refusal::STAMP;
 use refusal::TURN;
 ghost use mathlib.Core.Path.{_≡_};
+ghost use mathlib.Core.Bool.{true};
 ghost use Prim.Native.Nat.{_≤_};
 ghost use lib.ListN.{take};
 ghost use Rattle.laws.specs.Told.{refuses};
-ghost use Rattle.block.specs.Blocks.{toldNext};
+ghost use Rattle.laws.specs.Placed.{placed, placing};
+ghost use Rattle.block.specs.Blocks.{toldNext, frontFits};
 ghost use Rattle.issue.specs.Issue as spec;
 ghost use Rattle.issue.specs.Answers.{toldFronted, toldIssued, lengthOr};
 
@@ -226,5 +228,49 @@ fn refused(number: u32, place: BlockCount) -> Issued
     Issued {
         answer: Answer::Refused(number, place),
         length: 0,
+    }
+}
+
+// Writes the text of the next block that a host signs.
+pub fn block_text(
+    genesis: &[u8],
+    clock: Slot,
+    held: &[u8],
+    length: usize,
+    pool: Pool,
+    controller: u32,
+    signature: [u8; 64],
+    out: &mut [u8],
+) -> Issued
+    ensures answer { λ r. ⌜ toldIssued r ≡ spec.writing spec.textBytes (spec.front (now (genesis .entry)) (clock .0) (now (held .entry)) length pool controller signature) (now (out .entry)) 0 ⌝ }
+    ensures length { λ r. ⌜ r .length ≡ lengthOr (toldIssued r) ⌝ }
+    ensures out { λ _. ⌜ now (out .exit) ≡ spec.written spec.textBytes (spec.front (now (genesis .entry)) (clock .0) (now (held .entry)) length pool controller signature) (now (out .entry)) 0 ⌝ }
+{
+    let fronted = front(genesis, clock, held, length, pool, controller, signature);
+    let answer = fronted.answer;
+    let front = fronted.front;
+    match answer {
+        Answer::Refused(number, place) => refused(number, place),
+        Answer::Good => text(out, front),
+    }
+}
+
+// The front is written behind the room for the letters first: it alone may be refused.
+fn text(out: &mut [u8], front: Front) -> Issued
+    requires { ⌜ frontFits front ≡ true ⌝ }
+    ensures { λ r. ⌜ toldIssued r ≡ placed (now (out .entry)) 0 (spec.textBytes front) ⌝ }
+    ensures { λ r. ⌜ r .length ≡ lengthOr (toldIssued r) ⌝ }
+    ensures { λ _. ⌜ now (out .exit) ≡ placing (now (out .entry)) 0 (spec.textBytes front) ⌝ }
+{
+    let letters = b"block";
+    match block::write_front(out, 5, front) {
+        Place::Refused(number) => refused(number, BlockCount(0)),
+        Place::Next(length) => {
+            buffer::put(out, 0, letters);
+            Issued {
+                answer: Answer::Good,
+                length,
+            }
+        }
     }
 }
