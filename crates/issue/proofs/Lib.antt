@@ -1,2 +1,6 @@
 pub mod Fronts
 pub mod Texts
+pub mod Appending
+pub mod Appended
+pub mod Theorems
+pub mod Answers

@@ -1,0 +1,185 @@
+-- The next block behind a held chain: its parts fit, and it follows.
+-- Assumes nothing.
+use Prim.Native.Nat.{ℕ, zero, suc, _+_, _-_, _/_, _%_, _^_, _<_, _≤_, zero-le}
+use mathlib.Core.Path.{_≡_, ap, subst}
+use mathlib.Core.Bool.{Bool, true, false}
+use mathlib.Core.List.{List, [], _∷_, _++_}
+use native.Mathlib.Omega.{arith}
+use lib.Dec.{ltb, leb, lit<}
+use lib.ListN.{length, take, getD, replicate, length-replicate}
+use lib.Seq.{take-append-seam}
+use borrow.Author.Tests.{lt-ltb}
+use Rattle.laws.specs.Pick.{pick}
+use Rattle.laws.specs.Told.{gives}
+use Rattle.laws.specs.Every.{both, same, within, every}
+use Rattle.laws.specs.Format.{Bytes, Each}
+use Rattle.laws.specs.Tabulate.{tabulate}
+use Rattle.laws.proofs.Told.{gives-same, then-gives, unless-gives}
+use Rattle.laws.proofs.Every.{same-refl, both-true, within-here}
+use Rattle.laws.proofs.Tabulate.{length-tabulate}
+use Rattle.number.specs.Number.{largest}
+use Rattle.order.specs.declared.Order.{Order}
+use Rattle.sha256.specs.Sha256.{sha256, longest, padded, hashed, digestByte}
+use Rattle.block.specs.Block.{Parts, frontBytes, blockBytes, OrderFits, Fits}
+use Rattle.block.specs.Blocks.{knownDisplay}
+use Rattle.chain.specs.Chain.{linkOf, obeyed}
+use Rattle.chain.specs.Blocks.{follows, followed}
+use Rattle.chain.specs.declared.Opened.{Opened}
+use Rattle.chain.specs.declared.Standing.{Standing}
+use Rattle.chain.specs.declared.Summary.{Summary}
+use Rattle.pool.specs.Pool.{entriesIn, counts, counting, ordersOf, Taking, takeOne, taking}
+use Rattle.pool.specs.declared.Entry.{Entry}
+use Rattle.laws.specs.Fold.{folded, those}
+use Rattle.order.specs.Order.{valid, applied}
+use Rattle.pool.specs.declared.Pool.{Pool}
+use Rattle.issue.specs.Issue.{taken, nextFront, appendBytes}
+use Rattle.issue.proofs.Fronts.{taken-fine}
+
+-- ---- links are 32 bytes
+pub record Digest (link : List ℕ) : Type 0 where
+  pub size : length link ≡ 32
+  pub bytes : Bytes link
+
+tabulated-bytes : (n : ℕ) (f : ℕ → ℕ) → ((i : ℕ) → f i < 256) → Bytes (tabulate n f)
+tabulated-bytes zero f h i = lit< tt
+tabulated-bytes (suc n) f h zero = h 0
+tabulated-bytes (suc n) f h (suc i) = tabulated-bytes n (λ j. f (suc j)) (λ j. h (suc j)) i
+
+zeros-bytes : (n : ℕ) → Bytes (replicate n 0)
+zeros-bytes zero i = lit< tt
+zeros-bytes (suc n) zero = lit< tt
+zeros-bytes (suc n) (suc i) = zeros-bytes n i
+
+byte-small : (h : List ℕ) (i : ℕ) → digestByte h i < 256
+byte-small h i = let n : ℕ = getD h (i / 4) 0 / 256 ^ (3 - i % 4) in small n
+  where
+    small : (n : ℕ) → n % 256 < 256
+    small n = omega arith
+
+sha256-digest : (m : List ℕ) → Digest (sha256 m)
+unfolding sha256
+sha256-digest m =
+    let byte = digestByte (hashed (padded m) (length (padded m) / 64)) in
+    record { size = length-tabulate 32 byte; bytes = tabulated-bytes 32 byte (byte-small (hashed (padded m) (length (padded m) / 64))) }
+
+pub link-digest : (m : List ℕ) → Digest (linkOf m)
+link-digest m = by-length (leb (length m) longest)
+  where
+    by-length : (β : Bool) → Digest (pick β (sha256 m) (replicate 32 0))
+    by-length true = sha256-digest m
+    by-length false = record { size = length-replicate {A = ℕ} 32 0; bytes = zeros-bytes 32 }
+
+-- ---- the link that a standing carries on
+follows-digest : (s : Standing) (p : Parts) (after : Standing) → follows s p ≡ gives after → Digest (after .link)
+unfolding follows
+follows-digest s p after e =
+    let (above, rest) = unless-gives (ltb (s .stamp .0) (p .slot)) 6 0 _ after e in
+    let (linked, rest′) = unless-gives (same (p .link) (s .link)) 9 0 _ after rest in
+    let (releases, obeys, is) = then-gives (obeyed (s .releases) (p .orders)) _ after rest′ in
+    subst (λ (q : Standing). Digest (q .link)) (gives-same is) (link-digest (blockBytes p))
+
+pub followed-digest : (blocks : List Parts) (s after : Standing) → Digest (s .link) → followed s blocks ≡ gives after → Digest (after .link)
+followed-digest [] s after d e = subst (λ (q : Standing). Digest (q .link)) (gives-same e) d
+followed-digest (p ∷ rest) s after d e =
+    let (next, one, more) = then-gives (follows s p) _ after e in
+    followed-digest rest next after (follows-digest s p next one) more
+
+-- ---- the next block
+abbrev pub nextParts : Opened → Summary → Pool → List ℕ → List ℕ → Parts
+nextParts o held pool signature seal = record {
+  link = held .whole .link;
+  orders = taken o held pool;
+  slot = o .clock .0;
+  slotSignature = signature;
+  blockSignature = seal;
+}
+
+abbrev pub Writable : Order → Type 0
+Writable o = (o .expected ≤ largest) × (o .new ≤ largest)
+
+-- signatures of 64 bytes, and orders of releases that can be written, as the code's types have them
+pub record Given (pool : Pool) (signature seal : List ℕ) : Type 0 where
+  pub signature-size : length signature ≡ 64
+  pub signature-bytes : Bytes signature
+  pub seal-size : length seal ≡ 64
+  pub seal-bytes : Bytes seal
+  pub releases : Each (λ (e : Entry). Writable (e .order)) (pool .entries)
+
+-- what append writes is that block
+pub append-writes : (o : Opened) (held : Summary) (pool : Pool) (signature seal : List ℕ)
+    → appendBytes seal (nextFront o held pool signature) ≡ blockBytes (nextParts o held pool signature seal)
+unfolding blockBytes
+append-writes o held pool signature seal =
+    ap (λ (l : List Order). frontBytes (held .whole .link) l (o .clock .0) signature ++ seal) (take-append-seam (taken o held pool) _)
+
+-- it follows the held chain
+pub next-follows : (o : Opened) (held : Summary) (pool : Pool) (signature seal : List ℕ) → held .whole .stamp .0 < o .clock .0
+    → follows (held .whole) (nextParts o held pool signature seal)
+    ≡ gives
+    (record {
+      count = record { 0 = held .whole .count .0 + 1 };
+      length = held .whole .length + length (blockBytes (nextParts o held pool signature seal));
+      stamp = record { 0 = o .clock .0 };
+      link = linkOf (blockBytes (nextParts o held pool signature seal));
+      releases = taking 8 (held .whole .releases) (ordersOf (counting o held pool)) .releases;
+    })
+unfolding follows
+next-follows o held pool signature seal later =
+    rw (lt-ltb (held .whole .stamp .0) (o .clock .0) later, same-refl (held .whole .link), taken-fine o held pool .obeys)
+
+-- ---- and its parts fit
+module _ {A : Type 0} (P : A → Type 0) where
+  each-take : (n : ℕ) (l : List A) → Each P l → Each P (take n l)
+  each-take zero l each = tt
+  each-take (suc n) [] each = tt
+  each-take (suc n) (a ∷ l) (here, rest) = (here, each-take n l rest)
+
+  each-those : (test : A → Bool) (l : List A) → Each P l → Each P (those test l)
+  each-those test [] each = tt
+  each-those test (a ∷ l) (here, rest) = by-test (test a) (each-those test l rest)
+    where
+      by-test : (β : Bool) → Each P (those test l) → Each P (pick β (a ∷ those test l) (those test l))
+      by-test true more = (here, more)
+      by-test false more = more
+
+  each-append : (l : List A) (a : A) → Each P l → P a → Each P (l ++ (a ∷ []))
+  each-append [] a each here = (here, tt)
+  each-append (b ∷ l) a (first, rest) here = (first, each-append l a rest here)
+
+each-orders : (l : List Entry) → Each (λ (e : Entry). Writable (e .order)) l → Each Writable (ordersOf l)
+each-orders [] each = tt
+each-orders (e ∷ l) (here, rest) = (here, each-orders l rest)
+
+each-taken : (limit : ℕ) (orders : List Order) (t : Taking) → Each Writable orders → Each Writable (t .orders)
+    → Each Writable (folded (takeOne limit) t orders .orders)
+each-taken limit [] t each so-far = so-far
+each-taken limit (o ∷ rest) t (here, more) so-far = each-taken limit rest (takeOne limit t o) more (by-test (both (ltb (length (t .orders)) limit) (valid (t .releases) o)))
+  where
+    by-test : (β : Bool) → Each Writable (pick β (record { orders = t .orders ++ (o ∷ []); releases = applied (t .releases) o }) t .orders)
+    by-test true = each-append Writable (t .orders) o so-far here
+    by-test false = so-far
+
+fit-orders : (l : List Order) → every knownDisplay l ≡ true → Each Writable l → Each OrderFits l
+fit-orders [] known each = tt
+fit-orders (o ∷ l) known (here, rest) =
+    let (shown, more) = both-true (knownDisplay o) (every knownDisplay l) known in
+    ((shown, here .0, here .1), fit-orders l more rest)
+
+pub next-parts-fit : (o : Opened) (held : Summary) (pool : Pool) (signature seal : List ℕ) → Digest (held .whole .link) → Given pool signature seal
+    → within 1 256 (o .clock .0) ≡ true → Fits (nextParts o held pool signature seal)
+unfolding taking
+next-parts-fit o held pool signature seal digest given clock =
+    let entries = each-those (λ (e : Entry). Writable (e .order)) (counts o held) (entriesIn pool) (each-take (λ (e : Entry). Writable (e .order)) (pool .count) (pool .entries) (given .releases)) in
+    let writable = each-taken 8 (ordersOf (counting o held pool)) (record { orders = []; releases = held .whole .releases })
+    (each-orders (counting o held pool) entries) tt in
+    record {
+      link-size = digest .size;
+      link-bytes = digest .bytes;
+      count = within-here 0 8 (length (taken o held pool)) zero-le (taken-fine o held pool .few);
+      orders = fit-orders (taken o held pool) (taken-fine o held pool .known) writable;
+      slot = clock;
+      slot-signature-size = given .signature-size;
+      slot-signature-bytes = given .signature-bytes;
+      block-signature-size = given .seal-size;
+      block-signature-bytes = given .seal-bytes;
+    }
