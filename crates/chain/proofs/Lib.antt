@@ -7,5 +7,6 @@ pub mod Accepting
 pub mod Accepted
 pub mod Clocks
 pub mod Chains
+pub mod Links
 pub mod Theorems
 pub mod Answers

@@ -21,6 +21,8 @@ use Rattle.chain.proofs.Accepting.{same-blocks}
 use Rattle.chain.proofs.Accepted as accepted
 use Rattle.chain.proofs.Clocks as clocks
 use Rattle.chain.proofs.Chains as chains
+use Rattle.chain.proofs.Links.{block-link, genesis-link}
+use Rattle.sha256.specs.Sha256.{sha256}
 
 -- ---- bytes and blocks
 module _ (o : Opened) (way : Way) where
@@ -177,3 +179,11 @@ module _ (o : Opened) (verdicts : List ℕ) (clock : ℕ) where
     pub and-at-no-other-clock : (s′ : Summary) → 0 < clock → passed (atSlot o clock) (delivered verdicts) chain (begun (atSlot o clock)) ≡ gives s′
         → (s .whole .stamp .0 < clock) × (s′ .whole ≡ s .whole)
     and-at-no-other-clock = clocks.passed-below o verdicts clock chain bytes s good
+
+-- ---- links: "SHA-256 of the whole block before it, or of the genesis bytes for the first"
+pub the-link-of-a-block-is-its-digest : (p : Parts) → Fits p → linkOf (blockBytes p) ≡ sha256 (blockBytes p)
+the-link-of-a-block-is-its-digest = block-link
+
+pub the-first-link-is-the-digest-of-the-genesis : (genesis : List ℕ) (clock : ℕ) (o : Opened) → Bytes genesis → opened genesis clock ≡ gives o
+    → none o .link ≡ sha256 genesis
+the-first-link-is-the-digest-of-the-genesis = genesis-link

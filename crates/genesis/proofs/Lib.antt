@@ -1,3 +1,4 @@
 pub mod Faults
 pub mod Sound
 pub mod Answers
+pub mod Theorems
