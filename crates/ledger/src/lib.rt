@@ -1,5 +1,11 @@
 // The calls of the ledger for hosts in C and Rust. Each says what the call that it wraps says: first the refusal's number, 0 where there is
 // none, and its place.
+mod chains;
+
+pub use chains::AdoptAnswer;
+pub use chains::CheckAnswer;
+pub use chains::ledger_adopt;
+pub use chains::ledger_check;
 use sha256::Answer;
 ghost use mathlib.Core.Path.{_≡_};
 ghost use Rattle.laws.specs.Told.{numberOf, placeOf};

@@ -1,0 +1,98 @@
+// The calls on whole chains: the check of a delivered one, and adoption.
+use chain::Answer;
+use order::BlockCount;
+use order::Release;
+use order::Slot;
+ghost use mathlib.Core.Path.{_≡_};
+ghost use Rattle.laws.specs.Told.{numberOf, placeOf};
+ghost use Rattle.chain.specs.Chain.{checked};
+ghost use Rattle.chain.specs.Answers.{endOr};
+ghost use Rattle.adopt.specs.Adopt.{accepted, adopted, adopting};
+ghost use Rattle.adopt.specs.Answers.{sizeAndCountOr};
+ghost use Rattle.ledger.specs.Refusals.{numberIn, placeIn};
+
+// The block count and the releases after the last block, zeros where the chain was refused.
+#[repr(C)]
+pub struct CheckAnswer {
+    pub refusal: u32,
+    pub place: u32,
+    pub count: BlockCount,
+    pub releases: [Release; 64],
+}
+
+// The held chain's new length and block count, zeros where the delivered one was refused.
+#[repr(C)]
+pub struct AdoptAnswer {
+    pub refusal: u32,
+    pub place: u32,
+    pub length: usize,
+    pub count: BlockCount,
+}
+
+#[no_mangle]
+pub extern "C" fn ledger_check(
+    genesis: &[u8],
+    clock: Slot,
+    chain: &[u8],
+    verdicts: &[u8],
+) -> CheckAnswer
+    ensures refusal { λ r. ⌜ r .refusal ≡ numberOf (checked (now (genesis .entry)) (clock .0) (now (chain .entry)) (now (verdicts .entry))) ⌝ }
+    ensures place { λ r. ⌜ r .place ≡ placeOf (checked (now (genesis .entry)) (clock .0) (now (chain .entry)) (now (verdicts .entry))) ⌝ }
+    ensures values { λ r. ⌜ (r .count .0, r .releases) ≡ endOr (checked (now (genesis .entry)) (clock .0) (now (chain .entry)) (now (verdicts .entry))) ⌝ }
+{
+    let checked = chain::check(genesis, clock, chain, verdicts);
+    let answer = checked.answer;
+    let count = checked.count;
+    let releases = checked.releases;
+    CheckAnswer {
+        refusal: number_of(answer),
+        place: place_of(answer),
+        count,
+        releases,
+    }
+}
+
+#[no_mangle]
+pub extern "C" fn ledger_adopt(
+    genesis: &[u8],
+    clock: Slot,
+    held: &mut [u8],
+    length: usize,
+    delivered: &[u8],
+    verdicts: &[u8],
+) -> AdoptAnswer
+    ensures refusal { λ r. ⌜ r .refusal ≡ numberOf (adopted (accepted (now (genesis .entry)) (clock .0) (now (held .entry)) length (now (delivered .entry)) (now (verdicts .entry))) (now (held .entry)) (now (delivered .entry))) ⌝ }
+    ensures place { λ r. ⌜ r .place ≡ placeOf (adopted (accepted (now (genesis .entry)) (clock .0) (now (held .entry)) length (now (delivered .entry)) (now (verdicts .entry))) (now (held .entry)) (now (delivered .entry))) ⌝ }
+    ensures values { λ r. ⌜ (r .length, r .count .0) ≡ sizeAndCountOr (adopted (accepted (now (genesis .entry)) (clock .0) (now (held .entry)) length (now (delivered .entry)) (now (verdicts .entry))) (now (held .entry)) (now (delivered .entry))) ⌝ }
+    ensures held { λ _. ⌜ now (held .exit) ≡ adopting (accepted (now (genesis .entry)) (clock .0) (now (held .entry)) length (now (delivered .entry)) (now (verdicts .entry))) (now (held .entry)) (now (delivered .entry)) ⌝ }
+{
+    let adopted = adopt::adopt(genesis, clock, held, length, delivered, verdicts);
+    let answer = adopted.answer;
+    let count = adopted.count;
+    AdoptAnswer {
+        refusal: number_of(answer),
+        place: place_of(answer),
+        length: adopted.length,
+        count,
+    }
+}
+
+// The refusal's number, 0 where there is none.
+fn number_of(answer: Answer) -> u32
+    ensures { λ r. ⌜ r ≡ numberIn answer ⌝ }
+{
+    match answer {
+        Answer::Good => 0,
+        Answer::Refused(number, _) => number,
+    }
+}
+
+// And its place.
+fn place_of(answer: Answer) -> u32
+    ensures { λ r. ⌜ r ≡ placeIn answer ⌝ }
+{
+    match answer {
+        Answer::Good => 0,
+        Answer::Refused(_, place) => place.0,
+    }
+}
