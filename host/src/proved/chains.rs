@@ -1,0 +1,136 @@
+//! The calls on whole chains.
+use super::{raw, told};
+use crate::second::order::{BlockCount, Releases, Slot};
+use crate::second::Refusal;
+
+/// Checks a chain: its block count, and the releases after the last block.
+pub fn check(
+    genesis: &[u8],
+    now: Slot,
+    chain: &[u8],
+    verdicts: &[u8],
+) -> Result<(BlockCount, Releases), Refusal> {
+    let answer = unsafe {
+        raw::ledger_check(
+            genesis.as_ptr(),
+            genesis.len(),
+            raw::Slot(now.0),
+            chain.as_ptr(),
+            chain.len(),
+            verdicts.as_ptr(),
+            verdicts.len(),
+        )
+    };
+    let value = (BlockCount(answer.count.0), answer.releases);
+    told(answer.refusal, answer.place, value)
+}
+
+/// Adopts a delivered chain: the held chain's new length, and its block count.
+pub fn adopt(
+    genesis: &[u8],
+    now: Slot,
+    held: &mut [u8],
+    held_length: usize,
+    delivered: &[u8],
+    verdicts: &[u8],
+) -> Result<(usize, BlockCount), Refusal> {
+    let answer = unsafe {
+        raw::ledger_adopt(
+            genesis.as_ptr(),
+            genesis.len(),
+            raw::Slot(now.0),
+            held.as_mut_ptr(),
+            held.len(),
+            held_length,
+            delivered.as_ptr(),
+            delivered.len(),
+            verdicts.as_ptr(),
+            verdicts.len(),
+        )
+    };
+    let value = (answer.length, BlockCount(answer.count.0));
+    told(answer.refusal, answer.place, value)
+}
+
+#[cfg(test)]
+mod tests {
+    use super::*;
+    use crate::second;
+    use crate::second::samples::{self, Case};
+
+    /// Checks and adopts as a case says, and sees that the second implementation answers alike and leaves the same bytes.
+    fn call(case: &mut Case) -> Option<Refusal> {
+        assert_eq!(
+            check(&case.genesis, case.now, &case.delivered, &case.verdicts),
+            second::chain::check(&case.genesis, case.now, &case.delivered, &case.verdicts)
+        );
+        let mut second = case.clone();
+        let adopted = adopt(
+            &case.genesis,
+            case.now,
+            &mut case.held,
+            case.held_length,
+            &case.delivered,
+            &case.verdicts,
+        );
+        let expected = second::adopt::adopt(
+            &second.genesis,
+            second.now,
+            &mut second.held,
+            second.held_length,
+            &second.delivered,
+            &second.verdicts,
+        );
+        assert_eq!(adopted, expected);
+        assert_eq!(*case, second);
+        adopted.err()
+    }
+
+    #[test]
+    fn good_and_bad_openings() {
+        samples::answers(None, "no fault", Case::good(), call);
+        samples::refuses_bad_openings(call);
+    }
+
+    #[test]
+    fn bad_held_chains() {
+        samples::refuses_bad_held(call);
+    }
+
+    #[test]
+    fn bad_delivered_chains() {
+        for (fault, delivered, refused) in samples::bad_chains(&samples::table()) {
+            let verdicts = samples::verdicts(300);
+            let case = Case {
+                delivered,
+                verdicts,
+                ..Case::good()
+            };
+            samples::answers(Some(refused), &fault, case, call);
+        }
+    }
+
+    #[test]
+    fn the_earliest_of_several_faults() {
+        for stamp in [6, 7] {
+            samples::refuses_in_order(&samples::adopting_faults(stamp), call);
+        }
+    }
+
+    #[test]
+    fn the_longest_chains() {
+        for (blocks, now) in [(255, 256), (256, 256), (255, 255), (64, 65), (0, 1)] {
+            let (genesis, delivered) = samples::longest_chain(blocks);
+            let mut case = Case {
+                genesis,
+                now: Slot(now),
+                held: vec![samples::FILLER; delivered.len() + 3],
+                held_length: 0,
+                delivered,
+                verdicts: samples::verdicts(blocks as usize),
+                ..Case::good()
+            };
+            call(&mut case);
+        }
+    }
+}
