@@ -1,15 +1,16 @@
-// The calls on whole chains: the check of a delivered one, and adoption.
+// The calls on whole chains: the check of a delivered one, the choice, and adoption.
 use chain::Answer;
 use order::BlockCount;
 use order::Release;
 use order::Slot;
 ghost use mathlib.Core.Path.{_≡_};
+ghost use mathlib.Core.Bool.{true, false};
 ghost use Rattle.laws.specs.Told.{numberOf, placeOf};
 ghost use Rattle.chain.specs.Chain.{checked};
 ghost use Rattle.chain.specs.Answers.{endOr};
-ghost use Rattle.adopt.specs.Adopt.{accepted, adopted, adopting};
+ghost use Rattle.adopt.specs.Adopt.{accepted, choice, chosen, adopted, adopting};
 ghost use Rattle.adopt.specs.Answers.{sizeAndCountOr};
-ghost use Rattle.ledger.specs.Refusals.{numberIn, placeIn};
+ghost use Rattle.ledger.specs.Answers.{numberIn, placeIn, goodIn};
 
 // The block count and the releases after the last block, zeros where the chain was refused.
 #[repr(C)]
@@ -18,6 +19,14 @@ pub struct CheckAnswer {
     pub place: u32,
     pub count: BlockCount,
     pub releases: [Release; 64],
+}
+
+// Which of the two chains the choice shows.
+#[repr(C)]
+pub struct ChooseAnswer {
+    pub refusal: u32,
+    pub place: u32,
+    pub delivered: bool,
 }
 
 // The held chain's new length and block count, zeros where the delivered one was refused.
@@ -49,6 +58,27 @@ pub extern "C" fn ledger_check(
         place: place_of(answer),
         count,
         releases,
+    }
+}
+
+// A reference to one of the two can't be given back, so the answer says which.
+#[no_mangle]
+pub extern "C" fn ledger_choose(
+    genesis: &[u8],
+    clock: Slot,
+    held: &[u8],
+    delivered: &[u8],
+    verdicts: &[u8],
+) -> ChooseAnswer
+    ensures refusal { λ r. ⌜ r .refusal ≡ numberOf (choice (now (genesis .entry)) (clock .0) (now (held .entry)) (now (delivered .entry)) (now (verdicts .entry))) ⌝ }
+    ensures place { λ r. ⌜ r .place ≡ placeOf (choice (now (genesis .entry)) (clock .0) (now (held .entry)) (now (delivered .entry)) (now (verdicts .entry))) ⌝ }
+    ensures shown { λ r. ⌜ r .delivered ≡ chosen (choice (now (genesis .entry)) (clock .0) (now (held .entry)) (now (delivered .entry)) (now (verdicts .entry))) false true ⌝ }
+{
+    let answer = adopt::judge(genesis, clock, held, held.len(), delivered, verdicts).answer;
+    ChooseAnswer {
+        refusal: number_of(answer),
+        place: place_of(answer),
+        delivered: is_good(answer),
     }
 }
 
@@ -94,5 +124,14 @@ fn place_of(answer: Answer) -> u32
     match answer {
         Answer::Good => 0,
         Answer::Refused(_, place) => place.0,
+    }
+}
+
+fn is_good(answer: Answer) -> bool
+    ensures { λ r. ⌜ r ≡ goodIn answer ⌝ }
+{
+    match answer {
+        Answer::Good => true,
+        Answer::Refused(_, _) => false,
     }
 }

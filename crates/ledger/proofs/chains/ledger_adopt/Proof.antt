@@ -3,7 +3,7 @@
 use mathlib.Core.Path.{_∙_}
 use borrow.Author.Needs.{needs}
 use Rattle.adopt.specs.Answers.{sizeAndCount}
-use Rattle.ledger.proofs.Refusals.{number-crosses, place-crosses}
+use Rattle.ledger.proofs.Crossing.{number-crosses, place-crosses}
 use Rattle.ledger.proofs.chains.ledger_adopt.Statement.{statement}
 use Rattle.ledger.proofs.chains.ledger_adopt.Tie as tie
 

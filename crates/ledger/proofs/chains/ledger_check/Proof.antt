@@ -3,7 +3,7 @@
 use mathlib.Core.Path.{_∙_}
 use borrow.Author.Needs.{needs}
 use Rattle.chain.specs.Answers.{endOf}
-use Rattle.ledger.proofs.Refusals.{number-crosses, place-crosses}
+use Rattle.ledger.proofs.Crossing.{number-crosses, place-crosses}
 use Rattle.ledger.proofs.chains.ledger_check.Statement.{statement}
 use Rattle.ledger.proofs.chains.ledger_check.Tie as tie
 

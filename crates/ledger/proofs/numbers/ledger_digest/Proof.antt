@@ -1,10 +1,10 @@
--- `ledger::ledger_digest` meets its contract.
+-- `ledger::numbers::ledger_digest` meets its contract.
 -- Assumes nothing.
 use mathlib.Core.Path.{ap}
 use borrow.Author.Needs.{needs}
 use Rattle.laws.specs.Told.{numberOf, placeOf}
-use Rattle.ledger.proofs.ledger_digest.Statement.{statement}
-use Rattle.ledger.proofs.ledger_digest.Tie as tie
+use Rattle.ledger.proofs.numbers.ledger_digest.Statement.{statement}
+use Rattle.ledger.proofs.numbers.ledger_digest.Tie as tie
 
 digest-requires : tie.Need-digest-requires
 digest-requires c κs = search needs

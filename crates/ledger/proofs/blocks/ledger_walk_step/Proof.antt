@@ -1,0 +1,48 @@
+-- `ledger::blocks::ledger_walk_step` meets its contract.
+-- Assumes nothing.
+use mathlib.Core.Path.{ap}
+use borrow.Author.Needs.{needs}
+use Rattle.laws.specs.Told.{numberOf, placeOf}
+use Rattle.walk.specs.Walk.{placeAfter}
+use Rattle.ledger.specs.Answers.{isEnd}
+use Rattle.ledger.proofs.blocks.ledger_walk_step.Statement.{statement}
+use Rattle.ledger.proofs.blocks.ledger_walk_step.Tie as tie
+
+step-requires : tie.Need-step-requires
+step-requires c κs = search needs
+
+enum-known-reached : tie.Need-enum-known-reached
+enum-known-reached c = search needs
+
+enum-told : tie.Need-enum-told
+enum-told c = search needs
+
+enum-known-reached-2 : tie.Need-enum-known-reached-2
+enum-known-reached-2 c = search needs
+
+returns : tie.Need-returns
+returns c =
+    let told = rw (c .before .reached .given .1) at (c .before .before .before .before .step .ensures .0) in
+    (ap numberOf told, (ap placeOf told, (ap isEnd told, (ap (placeAfter _) told, c .before .before .before .before .step .ensures .1))))
+
+returns-2 : tie.Need-returns-2
+returns-2 c =
+    let told = rw (c .enum-told .given .1) at (c .before .before .before .step .ensures .0) in
+    (ap numberOf told, (ap placeOf told, (ap isEnd told, (ap (placeAfter _) told, c .before .before .before .step .ensures .1))))
+
+returns-3 : tie.Need-returns-3
+returns-3 c =
+    let told = rw (c .before .reached2 .given .1) at (c .before .before .before .before .step .ensures .0) in
+    (ap numberOf told, (ap placeOf told, (ap isEnd told, (ap (placeAfter _) told, c .before .before .before .before .step .ensures .1))))
+
+pub ledger-walk-step-spec : {M : Type 1} → statement M
+ledger-walk-step-spec =
+    tie.close
+    (tie.spec
+    step-requires
+    enum-known-reached
+    enum-told
+    enum-known-reached-2
+    returns
+    returns-2
+    returns-3)
