@@ -1,9 +1,11 @@
 //! A generator of chance, and the tables, blocks and faults that cases by chance are made of.
-use host::second::block::Block;
-use host::second::genesis::Genesis;
-use host::second::number;
-use host::second::order::{Order, Slot};
-use host::second::samples;
+mod exchanges;
+
+use crate::second::block::Block;
+use crate::second::genesis::Genesis;
+use crate::second::number;
+use crate::second::order::{Order, Slot};
+use crate::second::samples;
 
 /// Numbers near the edges of the ranges and of the written lengths.
 const EDGES: [u32; 20] = [
@@ -145,5 +147,11 @@ impl Chance {
             1 => usize::MAX - self.below(300),
             _ => 0,
         }
+    }
+
+    /// Blocks end to end, with no care for links, stamps and orders.
+    pub fn chain(&mut self) -> Vec<u8> {
+        let blocks = self.below(4);
+        (0..blocks).flat_map(|_| self.block().bytes()).collect()
     }
 }

@@ -1,16 +1,14 @@
 //! Chains by chance: one that is held and one that is delivered, most of them with a fault.
-use host::second::block::Block;
-use host::second::genesis::Genesis;
-use host::second::order::{Order, Releases, Slot};
-use host::second::samples::{self, FILLER};
-use host::second::sha256;
-
-use crate::chance::Chance;
-use crate::faults::Arguments;
+use super::Chance;
+use crate::second::block::Block;
+use crate::second::genesis::Genesis;
+use crate::second::order::{Order, Releases, Slot};
+use crate::second::samples::{self, Case, FILLER};
+use crate::second::sha256;
 
 impl Chance {
     /// The arguments of a call on chains.
-    pub fn exchange(&mut self) -> Arguments {
+    pub fn exchange(&mut self) -> Case {
         let table = self.small_table();
         let theirs = self.blocks(table.releases);
         let ours = match self.below(2) {
@@ -28,14 +26,14 @@ impl Chance {
             _ => held.len(),
         };
         held.resize(self.of(&rooms), FILLER);
-        Arguments {
+        Case {
             genesis: self.faulty_once_in(25, bytes),
             now,
             held,
             held_length,
             delivered,
             verdicts: self.verdicts(),
-            ..Arguments::good()
+            ..Case::good()
         }
     }
 
