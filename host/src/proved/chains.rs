@@ -25,6 +25,31 @@ pub fn check(
     told(answer.refusal, answer.place, value)
 }
 
+/// Shows the delivered chain exactly if it is accepted, else the held one with the refusal.
+pub fn choose<'a>(
+    genesis: &[u8],
+    now: Slot,
+    held: &'a [u8],
+    delivered: &'a [u8],
+    verdicts: &[u8],
+) -> (&'a [u8], Option<Refusal>) {
+    let answer = unsafe {
+        raw::ledger_choose(
+            genesis.as_ptr(),
+            genesis.len(),
+            raw::Slot(now.0),
+            held.as_ptr(),
+            held.len(),
+            delivered.as_ptr(),
+            delivered.len(),
+            verdicts.as_ptr(),
+            verdicts.len(),
+        )
+    };
+    let shown = if answer.delivered { delivered } else { held };
+    (shown, told(answer.refusal, answer.place, ()).err())
+}
+
 /// Adopts a delivered chain: the held chain's new length, and its block count.
 pub fn adopt(
     genesis: &[u8],
@@ -55,15 +80,30 @@ pub fn adopt(
 #[cfg(test)]
 mod tests {
     use super::*;
+    use crate::chance::Chance;
     use crate::second;
     use crate::second::samples::{self, Case};
 
-    /// Checks and adopts as a case says, and sees that the second implementation answers alike and leaves the same bytes.
+    fn checks_alike(case: &Case) {
+        let first = check(&case.genesis, case.now, &case.delivered, &case.verdicts);
+        let other = second::chain::check(&case.genesis, case.now, &case.delivered, &case.verdicts);
+        assert_eq!(first, other);
+    }
+
+    /// The same slice, not only the same bytes.
+    fn chooses_alike(case: &Case) {
+        let held = &case.held[..case.held_length.min(case.held.len())];
+        let (genesis, delivered, verdicts) = (&case.genesis, &case.delivered, &case.verdicts);
+        let first = choose(genesis, case.now, held, delivered, verdicts);
+        let other = second::adopt::choose(genesis, case.now, held, delivered, verdicts);
+        assert!(std::ptr::eq(first.0, other.0));
+        assert_eq!(first.1, other.1);
+    }
+
+    /// Checks, chooses and adopts as a case says, and sees that the second implementation answers alike and leaves the same bytes.
     fn call(case: &mut Case) -> Option<Refusal> {
-        assert_eq!(
-            check(&case.genesis, case.now, &case.delivered, &case.verdicts),
-            second::chain::check(&case.genesis, case.now, &case.delivered, &case.verdicts)
-        );
+        checks_alike(case);
+        chooses_alike(case);
         let mut second = case.clone();
         let adopted = adopt(
             &case.genesis,
@@ -132,5 +172,31 @@ mod tests {
             };
             call(&mut case);
         }
+    }
+
+    /// Zeros stand beside a refusal.
+    #[test]
+    fn refused() {
+        let answer = unsafe {
+            let none = [0u8; 1].as_ptr();
+            raw::ledger_check(none, 0, raw::Slot(1), none, 0, none, 0)
+        };
+        let zeros = raw::CheckAnswer {
+            refusal: 1,
+            place: 0,
+            count: raw::BlockCount(0),
+            releases: [0; 64],
+        };
+        assert_eq!(answer, zeros);
+    }
+
+    #[test]
+    fn by_chance() {
+        let mut chance = Chance::of_seed(6);
+        let mut accepted = 0;
+        for _ in 0..10_000 {
+            accepted += u32::from(call(&mut chance.exchange()).is_none());
+        }
+        assert!((500..9_500).contains(&accepted), "{accepted} accepted");
     }
 }

@@ -1,11 +1,15 @@
 //! The proved library, called through its archive. Nothing checks the declarations in `raw` against its source: the tests call each function
 //! with arguments that can be told apart, and compare it with the second implementation.
+mod blocks;
 mod chains;
-mod digest;
+mod numbers;
 mod raw;
+mod tables;
 
-pub use chains::{adopt, check};
-pub use digest::digest;
+pub use blocks::{read_block, slot_text, walk_step, write_block};
+pub use chains::{adopt, check, choose};
+pub use numbers::{digest, read_number, write_number};
+pub use tables::{depth, find_key, read_genesis, turn, Table};
 
 use crate::second::Refusal;
 

@@ -1,0 +1,92 @@
+//! Numbers and the digest.
+use super::{raw, told};
+use crate::second::Refusal;
+
+/// The number at a place, and the place after it.
+pub fn read_number(bytes: &[u8], at: usize) -> Result<(u32, usize), Refusal> {
+    let answer = unsafe { raw::ledger_read_number(bytes.as_ptr(), bytes.len(), at) };
+    told(answer.refusal, answer.place, (answer.value, answer.next))
+}
+
+/// Writes a number at a place of a buffer and gives the place after it.
+pub fn write_number(value: u32, buffer: &mut [u8], at: usize) -> Result<usize, Refusal> {
+    let answer = unsafe { raw::ledger_write_number(buffer.as_mut_ptr(), buffer.len(), at, value) };
+    told(answer.refusal, answer.place, answer.next)
+}
+
+/// SHA-256 of a slice.
+pub fn digest(message: &[u8]) -> Result<[u8; 32], Refusal> {
+    let answer = unsafe { raw::ledger_digest(message.as_ptr(), message.len()) };
+    told(answer.refusal, answer.place, answer.digest)
+}
+
+#[cfg(test)]
+mod tests {
+    use super::*;
+    use crate::chance::Chance;
+    use crate::second::samples::FILLER;
+    use crate::second::{lent, number, sha256};
+
+    /// Reads a number with both, and sees that the proved one leaves zeros beside a refusal.
+    fn reads_alike(bytes: &[u8], at: usize) {
+        let second = number::read(bytes.get(at..).unwrap_or(&[]));
+        let expected = second.map(|(value, length)| (value, at + length));
+        assert_eq!(read_number(bytes, at), expected, "{bytes:02X?} at {at}");
+        if let Err(refused) = second {
+            let answer = unsafe { raw::ledger_read_number(bytes.as_ptr(), bytes.len(), at) };
+            let zeros = raw::NumberAnswer {
+                refusal: refused.number,
+                place: 0,
+                value: 0,
+                next: 0,
+            };
+            assert_eq!(answer, zeros);
+        }
+    }
+
+    #[test]
+    fn numbers_are_read_alike() {
+        for high in 0..=5 {
+            for last in 0..=255 {
+                let bytes = [vec![0x80 | last; high], vec![last]].concat();
+                reads_alike(&bytes, 0);
+                reads_alike(&bytes, 1);
+                reads_alike(&bytes[..high], 0);
+            }
+        }
+        let mut chance = Chance::of_seed(1);
+        for _ in 0..2_000 {
+            let bytes = chance.array::<12>().map(|byte| byte | (byte << 5 & 0x80));
+            reads_alike(&bytes, chance.place(12));
+            reads_alike(&number::bytes(chance.number()), 0);
+        }
+    }
+
+    #[test]
+    fn numbers_are_written_alike() {
+        let mut chance = Chance::of_seed(2);
+        for _ in 0..2_000 {
+            let value = chance.number();
+            let length = chance.below(12);
+            let at = chance.of(&[0, 3, length, usize::MAX]);
+            let mut first = vec![FILLER; length];
+            let mut other = first.clone();
+            let expected = lent::put(&number::bytes(value), &mut other, at);
+            let written = write_number(value, &mut first, at);
+            assert_eq!(written, expected.map(|length| at + length));
+            assert_eq!(first, other);
+        }
+    }
+
+    #[test]
+    fn digests_agree() {
+        let message: Vec<u8> = (0..70_000u32).map(|i| (i * i >> 5) as u8).collect();
+        for length in (0..300).chain([1_000, 4_095, 65_535, 65_536, 65_537, 70_000]) {
+            assert_eq!(
+                digest(&message[..length]),
+                sha256::digest(&message[..length]),
+                "{length} bytes"
+            );
+        }
+    }
+}

@@ -1,0 +1,224 @@
+/*
+ * The ledger library for hosts in C (C99): the calls that target/staticlib/libledger.a exports (`rt staticlib ledger`).
+ *
+ * Every call answers for any bytes, any length and any number. An answer begins with the refusal's number, 0 where there is none, and its
+ * place: the failing block, counted from 1, or 0. Beside a refusal every other member of an answer is 0, unless it is said below, and every
+ * lent buffer is as it came. Bytes past what a call writes stay.
+ *
+ * A slice is a pointer and a length in bytes. The pointer is never null, not even where the length is 0, and the bytes are readable, and
+ * writable where it is not const. A buffer that a call writes shares no byte with the call's other slices. No call keeps a pointer,
+ * allocates, or has a state: calls from several threads need no lock.
+ */
+#ifndef LEDGER_H
+#define LEDGER_H
+
+#include <stdbool.h>
+#include <stddef.h>
+#include <stdint.h>
+
+#ifdef __cplusplus
+extern "C" {
+#endif
+
+/* Limits. */
+#define LEDGER_DISPLAYS 64           /* displays are 0 to 63 */
+#define LEDGER_CONTROLLERS 31        /* the most controllers of a table */
+#define LEDGER_SLOTS 256             /* slots are 1 to 256 */
+#define LEDGER_ORDERS 8              /* the most orders of a block */
+#define LEDGER_NUMBER_BYTES 5        /* the most bytes of a number */
+#define LEDGER_KEY_BYTES 32
+#define LEDGER_LINK_BYTES 32
+#define LEDGER_SIGNATURE_BYTES 64
+#define LEDGER_SLOT_TEXT_BYTES 6     /* the most bytes of a slot text */
+#define LEDGER_GENESIS_BYTES 1315    /* the most bytes of a genesis */
+#define LEDGER_BLOCK_LEAST_BYTES 162 /* the fewest bytes of a block */
+#define LEDGER_BLOCK_BYTES 251       /* and the most */
+#define LEDGER_CHAIN_BYTES 64256     /* the most bytes of a chain */
+#define LEDGER_DIGEST_BYTES 65536    /* the most bytes that are digested */
+#define LEDGER_GOOD_VERDICT 3        /* both signatures verify under the key whose turn the slot is */
+
+/* Refusal numbers. */
+enum ledger_refusal {
+    LEDGER_NO_REFUSAL = 0,
+    LEDGER_BAD_GENESIS = 1,    /* genesis bytes break a rule */
+    LEDGER_BAD_CLOCK = 2,      /* now is not 1 to 256 */
+    LEDGER_CUT = 3,            /* bytes end inside a block or number */
+    LEDGER_BAD_NUMBER = 4,     /* a number is not shortest, or too large */
+    LEDGER_OUT_OF_RANGE = 5,   /* order count, display or slot out of its range */
+    LEDGER_BAD_STAMP = 6,      /* a stamp not above the one before */
+    LEDGER_LATE_STAMP = 7,     /* a delivered stamp not below now */
+    LEDGER_BAD_VERDICT = 8,    /* verdict not 3, or missing */
+    LEDGER_BAD_LINK = 9,       /* link wrong */
+    LEDGER_BAD_ORDER = 10,     /* an order not valid at its point */
+    LEDGER_NOT_LONGER = 11,    /* not more blocks than held */
+    LEDGER_NOT_ITS_TURN = 12,  /* controller not 1 to n, or not its turn */
+    LEDGER_SHORT_BUFFER = 15,  /* lent output too short */
+    LEDGER_TOO_LONG = 16,      /* delivered chain over 64,256 bytes, or a slice to digest over 65,536 */
+    LEDGER_BAD_HELD = 17       /* held chain bad */
+};
+
+/* A slot, or a block's stamp. Apart from a number of blocks, so that neither can be taken for the other. */
+typedef struct {
+    uint32_t number;
+} ledger_slot;
+
+/* A number of blocks. */
+typedef struct {
+    uint32_t number;
+} ledger_block_count;
+
+/* An order: the release that a display is to have before, and the one that it is to have then. */
+typedef struct {
+    uint32_t display;
+    uint32_t expected;
+    uint32_t new_release;
+} ledger_order;
+
+/* The first `count` orders of the list are meant. Read from bytes, the others are zeros. */
+typedef struct {
+    uint32_t count;
+    ledger_order list[LEDGER_ORDERS];
+} ledger_orders;
+
+/* A block without its last 64 bytes. */
+typedef struct {
+    uint8_t link[LEDGER_LINK_BYTES];
+    ledger_orders orders;
+    ledger_slot slot;
+    uint8_t slot_signature[LEDGER_SIGNATURE_BYTES];
+} ledger_front;
+
+typedef struct {
+    ledger_front front;
+    uint8_t block_signature[LEDGER_SIGNATURE_BYTES];
+} ledger_block;
+
+/* A genesis table: n controllers, of whom t may be faulty, and u slots that an order stays pooled. */
+typedef struct {
+    uint32_t n;
+    uint32_t t;
+    uint32_t u;
+    uint32_t releases[LEDGER_DISPLAYS]; /* the starting releases */
+    size_t keys;                        /* where the first key stands in the genesis bytes */
+} ledger_genesis;
+
+typedef struct {
+    uint32_t refusal;
+    uint32_t place;
+    uint32_t value;
+    size_t next; /* the place after the number */
+} ledger_number_answer;
+
+typedef struct {
+    uint32_t refusal;
+    uint32_t place;
+    size_t next; /* the place after what was written: its length, if it was written from place 0 on */
+} ledger_write_answer;
+
+typedef struct {
+    uint32_t refusal;
+    uint32_t place;
+    uint8_t digest[32];
+} ledger_digest_answer;
+
+typedef struct {
+    uint32_t refusal;
+    uint32_t place;
+    ledger_genesis table;
+} ledger_genesis_answer;
+
+typedef struct {
+    uint32_t refusal;
+    uint32_t place;
+    size_t at; /* where the key's 32 bytes begin in the genesis bytes */
+} ledger_key_answer;
+
+typedef struct {
+    uint32_t refusal;
+    uint32_t place;
+    size_t next; /* the place after the block */
+    ledger_block block;
+} ledger_block_answer;
+
+typedef struct {
+    uint32_t refusal;
+    uint32_t place;
+    bool end;    /* no block is left: the block is zeros */
+    size_t next; /* where the walk stands now; after the end and after a refusal where it stood */
+    ledger_block block;
+} ledger_step_answer;
+
+typedef struct {
+    uint32_t refusal;
+    uint32_t place;
+    ledger_block_count count;
+    uint32_t releases[LEDGER_DISPLAYS]; /* after the last block */
+} ledger_check_answer;
+
+typedef struct {
+    uint32_t refusal;
+    uint32_t place;
+    bool delivered; /* the delivered chain is chosen; else the held one */
+} ledger_choose_answer;
+
+typedef struct {
+    uint32_t refusal;
+    uint32_t place;
+    size_t length; /* the held chain's new length */
+    ledger_block_count count;
+} ledger_adopt_answer;
+
+/* Reads the number at a place: 3, 4. */
+ledger_number_answer ledger_read_number(const uint8_t *bytes, size_t bytes_length, size_t at);
+
+/* Writes a number at a place of a buffer: 15. */
+ledger_write_answer ledger_write_number(uint8_t *out, size_t out_length, size_t at, uint32_t value);
+
+/* SHA-256: 16. */
+ledger_digest_answer ledger_digest(const uint8_t *message, size_t message_length);
+
+/* Reads a genesis: 1. */
+ledger_genesis_answer ledger_read_genesis(const uint8_t *bytes, size_t bytes_length);
+
+/* Where a controller's key stands in genesis bytes; controllers count from 1: 1, 12. */
+ledger_key_answer ledger_find_key(const uint8_t *bytes, size_t bytes_length, uint32_t controller);
+
+/* Whose turn a slot is: a controller, or 0 where the table has none. */
+uint32_t ledger_turn(ledger_genesis table, ledger_slot slot);
+
+/* How many slots a block must lie back to be settled: it is if its slot + depth < now. */
+uint64_t ledger_depth(ledger_genesis table);
+
+/* Reads the block at a place: 3, 4, 5 in byte order. */
+ledger_block_answer ledger_read_block(const uint8_t *bytes, size_t bytes_length, size_t at);
+
+/* Writes a block at a place of a buffer: 5, 15. */
+ledger_write_answer ledger_write_block(uint8_t *out, size_t out_length, size_t at, ledger_block block);
+
+/* Writes the text of a slot that a host signs: 2, 15. */
+ledger_write_answer ledger_slot_text(uint8_t *out, size_t out_length, ledger_slot slot);
+
+/* A step of a walk over a chain: the block at a place, or the end, or a refusal as for one block: 3, 4, 5. */
+ledger_step_answer ledger_walk_step(const uint8_t *chain, size_t chain_length, size_t at);
+
+/* Checks a delivered chain at slot `clock`, with a verdict byte for each block: 1, 2, 16, then its blocks one by one: 3, 4, 5 in byte order,
+   6, 7, 8, 9, 10. */
+ledger_check_answer ledger_check(const uint8_t *genesis, size_t genesis_length, ledger_slot clock, const uint8_t *chain,
+                                 size_t chain_length, const uint8_t *verdicts, size_t verdicts_length);
+
+/* Chooses between a held chain and a delivered one, and copies nothing: 1, 2, 17, 16, the delivered blocks, 11. */
+ledger_choose_answer ledger_choose(const uint8_t *genesis, size_t genesis_length, ledger_slot clock, const uint8_t *held,
+                                   size_t held_length, const uint8_t *delivered, size_t delivered_length,
+                                   const uint8_t *verdicts, size_t verdicts_length);
+
+/* Puts a delivered chain in the place of the held one, which is the first `length` bytes of a buffer of `held_length`, if it has more
+   blocks: 1, 2, 17, 16, the delivered blocks, 11, 15. */
+ledger_adopt_answer ledger_adopt(const uint8_t *genesis, size_t genesis_length, ledger_slot clock, uint8_t *held,
+                                 size_t held_length, size_t length, const uint8_t *delivered, size_t delivered_length,
+                                 const uint8_t *verdicts, size_t verdicts_length);
+
+#ifdef __cplusplus
+}
+#endif
+
+#endif
