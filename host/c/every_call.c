@@ -1,0 +1,161 @@
+/* Each call of include/ledger.h from C, with arguments and answers that can be told apart: nothing else ties the header to the archive.
+   `every_call` answers 0, or the line of the first answer that is not as expected. */
+#include "ledger.h"
+
+#include <string.h>
+
+#define FILLER 0xEE
+#define EXPECT(fact)         \
+    do {                     \
+        if (!(fact))         \
+            return __LINE__; \
+    } while (0)
+
+int every_call(void);
+
+static int numbers(void) {
+    uint8_t out[5];
+    memset(out, FILLER, sizeof out);
+    ledger_write_answer written = ledger_write_number(out, sizeof out, 1, 300);
+    EXPECT(written.refusal == 0 && written.place == 0 && written.next == 3);
+    EXPECT(memcmp(out, "\xEE\xAC\x02\xEE\xEE", 5) == 0);
+    ledger_number_answer read = ledger_read_number(out, sizeof out, 1);
+    EXPECT(read.refusal == 0 && read.place == 0 && read.value == 300 && read.next == 3);
+    EXPECT(ledger_write_number(out, sizeof out, 1, UINT32_MAX).refusal == LEDGER_SHORT_BUFFER);
+    EXPECT(ledger_read_number(out, 2, 1).refusal == LEDGER_CUT);
+    EXPECT(ledger_read_number((const uint8_t *)"\x80", 2, 0).refusal == LEDGER_BAD_NUMBER);
+    return 0;
+}
+
+/* A genesis of n = 6, t = 1 and u = 5, with display 2 at release 40: its length. */
+static size_t genesis_of(uint8_t out[LEDGER_GENESIS_BYTES]) {
+    size_t at = 0;
+    const uint32_t head[3] = {6, 1, 5};
+    for (int i = 0; i < 3; i++)
+        at = ledger_write_number(out, LEDGER_GENESIS_BYTES, at, head[i]).next;
+    for (int display = 0; display < LEDGER_DISPLAYS; display++)
+        at = ledger_write_number(out, LEDGER_GENESIS_BYTES, at, display == 2 ? 40 : 0).next;
+    for (int controller = 1; controller <= 6; controller++, at += LEDGER_KEY_BYTES)
+        memset(out + at, controller, LEDGER_KEY_BYTES);
+    return at;
+}
+
+static int tables(void) {
+    uint8_t genesis[LEDGER_GENESIS_BYTES];
+    size_t length = genesis_of(genesis);
+    ledger_genesis_answer read = ledger_read_genesis(genesis, length);
+    EXPECT(read.refusal == 0 && read.place == 0);
+    EXPECT(read.table.n == 6 && read.table.t == 1 && read.table.u == 5);
+    EXPECT(read.table.releases[1] == 0 && read.table.releases[2] == 40 && read.table.releases[63] == 0);
+    EXPECT(read.table.keys == length - 6 * LEDGER_KEY_BYTES);
+    EXPECT(ledger_read_genesis(genesis, length - 1).refusal == LEDGER_BAD_GENESIS);
+    ledger_key_answer key = ledger_find_key(genesis, length, 6);
+    EXPECT(key.refusal == 0 && key.place == 0 && key.at == length - LEDGER_KEY_BYTES && genesis[key.at] == 6);
+    EXPECT(ledger_find_key(genesis, length, 7).refusal == LEDGER_NOT_ITS_TURN);
+    EXPECT(ledger_turn(read.table, (ledger_slot){7}) == 1);
+    EXPECT(ledger_turn(read.table, (ledger_slot){256}) == 4);
+    EXPECT(ledger_depth(read.table) == 4);
+    return 0;
+}
+
+/* A block at a slot that takes display 2 one release on, with the digest of the bytes before it as its link. */
+static ledger_block block_after(const uint8_t *before, size_t length, uint32_t slot, uint32_t release) {
+    ledger_block block;
+    memset(&block, 0, sizeof block);
+    memcpy(block.front.link, ledger_digest(before, length).digest, LEDGER_LINK_BYTES);
+    block.front.orders.count = 1;
+    block.front.orders.list[0] = (ledger_order){.display = 2, .expected = release, .new_release = release + 1};
+    block.front.slot.number = slot;
+    memset(block.front.slot_signature, 0x51, LEDGER_SIGNATURE_BYTES);
+    memset(block.block_signature, 0xB1, LEDGER_SIGNATURE_BYTES);
+    return block;
+}
+
+static int blocks(void) {
+    uint8_t out[LEDGER_BLOCK_BYTES];
+    memset(out, FILLER, sizeof out);
+    ledger_block block = block_after((const uint8_t *)"abc", 3, 256, 40);
+    EXPECT(memcmp(block.front.link, "\xBA\x78\x16\xBF", 4) == 0);
+    ledger_write_answer written = ledger_write_block(out, sizeof out, 3, block);
+    EXPECT(written.refusal == 0 && written.place == 0 && written.next == 169);
+    EXPECT(out[2] == FILLER && out[3] == 0xBA && out[168] == 0xB1 && out[169] == FILLER);
+    EXPECT(memcmp(out + 35, "\x01\x02\x28\x29\x80\x02\x51", 7) == 0);
+    ledger_block_answer read = ledger_read_block(out, sizeof out, 3);
+    EXPECT(read.refusal == 0 && read.place == 0 && read.next == 169);
+    EXPECT(memcmp(&read.block, &block, sizeof block) == 0);
+    EXPECT(ledger_read_block(out, 100, 3).refusal == LEDGER_CUT);
+    block.front.orders.list[0].display = LEDGER_DISPLAYS;
+    EXPECT(ledger_write_block(out, sizeof out, 3, block).refusal == LEDGER_OUT_OF_RANGE);
+    written = ledger_slot_text(out, LEDGER_SLOT_TEXT_BYTES, (ledger_slot){256});
+    EXPECT(written.refusal == 0 && written.place == 0 && written.next == 6);
+    EXPECT(memcmp(out, "slot\x80\x02", 6) == 0);
+    EXPECT(ledger_slot_text(out, sizeof out, (ledger_slot){0}).refusal == LEDGER_BAD_CLOCK);
+    return 0;
+}
+
+/* What the calls on chains share: a good chain of two blocks, the first of which takes `first` bytes. */
+struct chain {
+    uint8_t genesis[LEDGER_GENESIS_BYTES];
+    size_t genesis_length;
+    uint8_t bytes[2 * LEDGER_BLOCK_BYTES];
+    size_t first;
+    size_t length;
+};
+
+static void chain_of(struct chain *c) {
+    c->genesis_length = genesis_of(c->genesis);
+    ledger_block block = block_after(c->genesis, c->genesis_length, 1, 40);
+    c->first = ledger_write_block(c->bytes, sizeof c->bytes, 0, block).next;
+    block = block_after(c->bytes, c->first, 3, 41);
+    c->length = ledger_write_block(c->bytes, sizeof c->bytes, c->first, block).next;
+}
+
+static int checks(const struct chain *c) {
+    const ledger_slot now = {20};
+    ledger_check_answer checked = ledger_check(c->genesis, c->genesis_length, now, c->bytes, c->length, (const uint8_t *)"\3\3", 2);
+    EXPECT(checked.refusal == 0 && checked.place == 0 && checked.count.number == 2);
+    EXPECT(checked.releases[0] == 0 && checked.releases[2] == 42 && checked.releases[63] == 0);
+    checked = ledger_check(c->genesis, c->genesis_length, now, c->bytes, c->length, (const uint8_t *)"\3\2", 2);
+    EXPECT(checked.refusal == LEDGER_BAD_VERDICT && checked.place == 2 && checked.count.number == 0);
+    ledger_step_answer step = ledger_walk_step(c->bytes, c->length, c->first);
+    EXPECT(step.refusal == 0 && step.place == 0 && !step.end && step.next == c->length);
+    EXPECT(step.block.front.slot.number == 3 && step.block.block_signature[63] == 0xB1);
+    step = ledger_walk_step(c->bytes, c->length, step.next);
+    EXPECT(step.refusal == 0 && step.end && step.next == c->length);
+    step = ledger_walk_step(c->bytes, c->length - 1, c->first);
+    EXPECT(step.refusal == LEDGER_CUT && !step.end && step.next == c->first);
+    return 0;
+}
+
+static int adopts(const struct chain *c) {
+    const ledger_slot now = {20};
+    const uint8_t verdicts[2] = {LEDGER_GOOD_VERDICT, LEDGER_GOOD_VERDICT};
+    ledger_choose_answer shown =
+        ledger_choose(c->genesis, c->genesis_length, now, c->bytes, c->first, c->bytes, c->length, verdicts, 2);
+    EXPECT(shown.refusal == 0 && shown.place == 0 && shown.delivered);
+    shown = ledger_choose(c->genesis, c->genesis_length, now, c->bytes, c->length, c->bytes, c->first, verdicts, 2);
+    EXPECT(shown.refusal == LEDGER_NOT_LONGER && shown.place == 0 && !shown.delivered);
+    uint8_t held[2 * LEDGER_BLOCK_BYTES];
+    memset(held, FILLER, sizeof held);
+    memcpy(held, c->bytes, c->first);
+    ledger_adopt_answer adopted = ledger_adopt(c->genesis, c->genesis_length, now, held, c->length - 1, c->first, c->bytes, c->length,
+                                               verdicts, 2);
+    EXPECT(adopted.refusal == LEDGER_SHORT_BUFFER && held[c->first] == FILLER);
+    adopted = ledger_adopt(c->genesis, c->genesis_length, now, held, sizeof held, c->first, c->bytes, c->length, verdicts, 2);
+    EXPECT(adopted.refusal == 0 && adopted.place == 0 && adopted.length == c->length && adopted.count.number == 2);
+    EXPECT(memcmp(held, c->bytes, c->length) == 0 && held[c->length] == FILLER);
+    held[c->first] ^= 1;
+    adopted = ledger_adopt(c->genesis, c->genesis_length, now, held, sizeof held, c->length, c->bytes, c->length, verdicts, 2);
+    EXPECT(adopted.refusal == LEDGER_BAD_HELD && adopted.place == 2 && adopted.length == 0);
+    return 0;
+}
+
+int every_call(void) {
+    struct chain chain;
+    chain_of(&chain);
+    const int lines[] = {numbers(), tables(), blocks(), checks(&chain), adopts(&chain)};
+    for (size_t i = 0; i < sizeof lines / sizeof *lines; i++)
+        if (lines[i] != 0)
+            return lines[i];
+    return 0;
+}
