@@ -108,7 +108,7 @@ pub extern "C" fn ledger_adopt(
 }
 
 // The refusal's number, 0 where there is none.
-fn number_of(answer: Answer) -> u32
+pub fn number_of(answer: Answer) -> u32
     ensures { λ r. ⌜ r ≡ numberIn answer ⌝ }
 {
     match answer {
@@ -118,7 +118,7 @@ fn number_of(answer: Answer) -> u32
 }
 
 // And its place.
-fn place_of(answer: Answer) -> u32
+pub fn place_of(answer: Answer) -> u32
     ensures { λ r. ⌜ r ≡ placeIn answer ⌝ }
 {
     match answer {

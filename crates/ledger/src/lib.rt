@@ -3,6 +3,7 @@
 mod blocks;
 mod chains;
 mod numbers;
+mod pools;
 mod tables;
 
 pub use blocks::BlockAnswer;
@@ -23,6 +24,13 @@ pub use numbers::WriteAnswer;
 pub use numbers::ledger_digest;
 pub use numbers::ledger_read_number;
 pub use numbers::ledger_write_number;
+pub use pools::IssueAnswer;
+pub use pools::PoolAnswer;
+pub use pools::Signature;
+pub use pools::ledger_append;
+pub use pools::ledger_block_text;
+pub use pools::ledger_draft;
+pub use pools::ledger_pool_order;
 pub use tables::GenesisAnswer;
 pub use tables::KeyAnswer;
 pub use tables::ledger_depth;

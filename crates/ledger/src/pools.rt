@@ -1,0 +1,162 @@
+// The order pool, and issuing a block from it. A signature crosses as a struct, since an array by itself can't.
+use crate::chains::number_of;
+use crate::chains::place_of;
+use order::Order;
+use order::Slot;
+use pool::Pool;
+ghost use mathlib.Core.Path.{_≡_};
+ghost use Rattle.laws.specs.Told.{numberOf, placeOf};
+ghost use Rattle.pool.specs.Pool.{offered};
+ghost use Rattle.pool.specs.Answers.{poolOr};
+ghost use Rattle.issue.specs.Issue as spec;
+ghost use Rattle.issue.specs.Answers.{lengthOr};
+
+#[repr(C)]
+pub struct Signature {
+    pub bytes: [u8; 64],
+}
+
+// The pool as it then is: as it came where the order was refused.
+#[repr(C)]
+pub struct PoolAnswer {
+    pub refusal: u32,
+    pub place: u32,
+    pub pool: Pool,
+}
+
+// How many bytes were written, or the held chain's new length.
+#[repr(C)]
+pub struct IssueAnswer {
+    pub refusal: u32,
+    pub place: u32,
+    pub length: usize,
+}
+
+#[no_mangle]
+pub extern "C" fn ledger_pool_order(
+    genesis: &[u8],
+    clock: Slot,
+    held: &[u8],
+    length: usize,
+    pool: Pool,
+    order: Order,
+) -> PoolAnswer
+    ensures refusal { λ r. ⌜ r .refusal ≡ numberOf (offered (now (genesis .entry)) (clock .0) (now (held .entry)) length pool order) ⌝ }
+    ensures place { λ r. ⌜ r .place ≡ placeOf (offered (now (genesis .entry)) (clock .0) (now (held .entry)) length pool order) ⌝ }
+    ensures pool { λ r. ⌜ r .pool ≡ poolOr pool (offered (now (genesis .entry)) (clock .0) (now (held .entry)) length pool order) ⌝ }
+{
+    let offered = pool::offer(genesis, clock, held, length, pool, order);
+    let answer = offered.answer;
+    let after = offered.pool;
+    PoolAnswer {
+        refusal: number_of(answer),
+        place: place_of(answer),
+        pool: after,
+    }
+}
+
+#[no_mangle]
+pub extern "C" fn ledger_draft(
+    genesis: &[u8],
+    clock: Slot,
+    held: &[u8],
+    length: usize,
+    pool: Pool,
+    controller: u32,
+    slot_signature: Signature,
+    out: &mut [u8],
+) -> IssueAnswer
+    ensures refusal { λ r. ⌜ r .refusal ≡ numberOf (spec.writing spec.draftBytes (spec.front (now (genesis .entry)) (clock .0) (now (held .entry)) length pool controller («slot_signature» .bytes)) (now (out .entry)) 0) ⌝ }
+    ensures place { λ r. ⌜ r .place ≡ placeOf (spec.writing spec.draftBytes (spec.front (now (genesis .entry)) (clock .0) (now (held .entry)) length pool controller («slot_signature» .bytes)) (now (out .entry)) 0) ⌝ }
+    ensures length { λ r. ⌜ r .length ≡ lengthOr (spec.writing spec.draftBytes (spec.front (now (genesis .entry)) (clock .0) (now (held .entry)) length pool controller («slot_signature» .bytes)) (now (out .entry)) 0) ⌝ }
+    ensures out { λ _. ⌜ now (out .exit) ≡ spec.written spec.draftBytes (spec.front (now (genesis .entry)) (clock .0) (now (held .entry)) length pool controller («slot_signature» .bytes)) (now (out .entry)) 0 ⌝ }
+{
+    let signature = slot_signature.bytes;
+    let issued = issue::draft(
+        genesis,
+        clock,
+        held,
+        length,
+        pool,
+        controller,
+        signature,
+        out,
+    );
+    let answer = issued.answer;
+    IssueAnswer {
+        refusal: number_of(answer),
+        place: place_of(answer),
+        length: issued.length,
+    }
+}
+
+#[no_mangle]
+pub extern "C" fn ledger_block_text(
+    genesis: &[u8],
+    clock: Slot,
+    held: &[u8],
+    length: usize,
+    pool: Pool,
+    controller: u32,
+    slot_signature: Signature,
+    out: &mut [u8],
+) -> IssueAnswer
+    ensures refusal { λ r. ⌜ r .refusal ≡ numberOf (spec.writing spec.textBytes (spec.front (now (genesis .entry)) (clock .0) (now (held .entry)) length pool controller («slot_signature» .bytes)) (now (out .entry)) 0) ⌝ }
+    ensures place { λ r. ⌜ r .place ≡ placeOf (spec.writing spec.textBytes (spec.front (now (genesis .entry)) (clock .0) (now (held .entry)) length pool controller («slot_signature» .bytes)) (now (out .entry)) 0) ⌝ }
+    ensures length { λ r. ⌜ r .length ≡ lengthOr (spec.writing spec.textBytes (spec.front (now (genesis .entry)) (clock .0) (now (held .entry)) length pool controller («slot_signature» .bytes)) (now (out .entry)) 0) ⌝ }
+    ensures out { λ _. ⌜ now (out .exit) ≡ spec.written spec.textBytes (spec.front (now (genesis .entry)) (clock .0) (now (held .entry)) length pool controller («slot_signature» .bytes)) (now (out .entry)) 0 ⌝ }
+{
+    let signature = slot_signature.bytes;
+    let issued = issue::block_text(
+        genesis,
+        clock,
+        held,
+        length,
+        pool,
+        controller,
+        signature,
+        out,
+    );
+    let answer = issued.answer;
+    IssueAnswer {
+        refusal: number_of(answer),
+        place: place_of(answer),
+        length: issued.length,
+    }
+}
+
+#[no_mangle]
+pub extern "C" fn ledger_append(
+    genesis: &[u8],
+    clock: Slot,
+    held: &mut [u8],
+    length: usize,
+    pool: Pool,
+    controller: u32,
+    slot_signature: Signature,
+    block_signature: Signature,
+) -> IssueAnswer
+    ensures refusal { λ r. ⌜ r .refusal ≡ numberOf (spec.writing (spec.appendBytes («block_signature» .bytes)) (spec.front (now (genesis .entry)) (clock .0) (now (held .entry)) length pool controller («slot_signature» .bytes)) (now (held .entry)) length) ⌝ }
+    ensures place { λ r. ⌜ r .place ≡ placeOf (spec.writing (spec.appendBytes («block_signature» .bytes)) (spec.front (now (genesis .entry)) (clock .0) (now (held .entry)) length pool controller («slot_signature» .bytes)) (now (held .entry)) length) ⌝ }
+    ensures length { λ r. ⌜ r .length ≡ lengthOr (spec.writing (spec.appendBytes («block_signature» .bytes)) (spec.front (now (genesis .entry)) (clock .0) (now (held .entry)) length pool controller («slot_signature» .bytes)) (now (held .entry)) length) ⌝ }
+    ensures held { λ _. ⌜ now (held .exit) ≡ spec.written (spec.appendBytes («block_signature» .bytes)) (spec.front (now (genesis .entry)) (clock .0) (now (held .entry)) length pool controller («slot_signature» .bytes)) (now (held .entry)) length ⌝ }
+{
+    let signature = slot_signature.bytes;
+    let seal = block_signature.bytes;
+    let issued = issue::append(
+        genesis,
+        clock,
+        held,
+        length,
+        pool,
+        controller,
+        signature,
+        seal,
+    );
+    let answer = issued.answer;
+    IssueAnswer {
+        refusal: number_of(answer),
+        place: place_of(answer),
+        length: issued.length,
+    }
+}
