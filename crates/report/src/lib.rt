@@ -43,7 +43,8 @@ pub fn report(genesis: &[u8], clock: Slot, held: &[u8], length: usize) -> Report
     }
 }
 
-fn refused(number: u32, place: BlockCount) -> Reported
+// What stands beside a refusal.
+pub fn refused(number: u32, place: BlockCount) -> Reported
     ensures { λ r. ⌜ (toldReported r ≡ refuses number (place .0)) × (valuesOf r ≡ noValues) ⌝ }
 {
     Reported {

@@ -1,0 +1,48 @@
+-- `printed::lines::put_first` meets its contract.
+-- Assumes nothing.
+use mathlib.Core.List.{_++_}
+use borrow.Author.Needs.{needs}
+use Rattle.laws.proofs.Placed.{room-first, room-then, wrote-then}
+use Rattle.printed.specs.Station.{word}
+use Rattle.printed.proofs.lines.put_first.Statement.{statement}
+use Rattle.printed.proofs.lines.put_first.Tie as tie
+
+put-word-requires : tie.Need-put-word-requires
+put-word-requires c κs =
+    let start = c .before .before in
+    let a = start .args in
+    room-first (word (a .clock) 32) (word (a .held) 32 ++ word (a .settled) 10) (start .pre)
+
+put-word-requires-2 : tie.Need-put-word-requires-2
+put-word-requires-2 c κs =
+    let first = c .before .before .before in
+    let start = first .before .before .before in
+    let a = start .args in
+    room-first (word (a .held) 32) (word (a .settled) 10)
+    (room-then (word (a .clock) 32) (word (a .held) 32 ++ word (a .settled) 10) (first .put-word .ensures) (start .pre))
+
+put-word-requires-3 : tie.Need-put-word-requires-3
+put-word-requires-3 c κs =
+    let second = c .before .before .before in
+    let first = second .before .before .before .before in
+    let start = first .before .before .before in
+    let a = start .args in
+    room-then (word (a .held) 32) (word (a .settled) 10) (second .put-word2 .ensures)
+    (room-then (word (a .clock) 32) (word (a .held) 32 ++ word (a .settled) 10) (first .put-word .ensures) (start .pre))
+
+same-length : tie.Need-same-length
+same-length c = search needs
+
+returns : tie.Need-returns
+returns c =
+    let third = c .before .before in
+    let second = third .before .before .before .before in
+    let first = second .before .before .before .before in
+    let a = first .before .before .before .args in
+    wrote-then (word (a .clock) 32) (word (a .held) 32 ++ word (a .settled) 10) (first .put-word .ensures)
+    (wrote-then (word (a .held) 32) (word (a .settled) 10) (second .put-word2 .ensures) (third .put-word3 .ensures))
+
+pub put-first-spec : {M : Type 1} → statement M
+put-first-spec =
+    tie.close
+    (tie.spec put-word-requires put-word-requires-2 put-word-requires-3 same-length returns)

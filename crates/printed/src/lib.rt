@@ -1,0 +1,100 @@
+// What the report program prints (01, "Worked by hand"): from the bytes of its input to the bytes of its output.
+mod decimal;
+mod lines;
+
+use buffer::Writing;
+use buffer::fits;
+use lines::put_text;
+use number::Reading;
+use order::BlockCount;
+use order::Slot;
+use refusal::CLOCK;
+use refusal::GENESIS;
+use report::Reported;
+ghost use mathlib.Core.Path.{_≡_};
+ghost use lib.ListN.{length};
+ghost use Rattle.laws.specs.Told.{refuses};
+ghost use Rattle.laws.specs.Placed.{placed, placing};
+ghost use Rattle.buffer.specs.Writing.{told};
+ghost use Rattle.printed.specs.Station as spec;
+ghost use Rattle.printed.specs.Answers.{toldStart, Inside, toldAsked};
+
+// The most bytes that a genesis has.
+pub const LONGEST_GENESIS: u32 = 1315;
+
+// The most bytes that are printed.
+pub const LONGEST_TEXT: usize = 2751;
+
+// Where the genesis stands in the input. Now stands behind it.
+pub enum Start {
+    Genesis(usize, usize),
+    Fault,
+}
+
+// The report that the input asks for, and its slot.
+pub struct Asked {
+    pub clock: Slot,
+    pub report: Reported,
+}
+
+// Prints the report that an input asks for into a lent buffer.
+pub fn station(input: &[u8], out: &mut [u8]) -> Writing
+    ensures answer { λ r. ⌜ told r ≡ placed (now (out .entry)) 0 (spec.stationText (now (input .entry))) ⌝ }
+    ensures buffer { λ _. ⌜ now (out .exit) ≡ placing (now (out .entry)) 0 (spec.stationText (now (input .entry))) ⌝ }
+{
+    let mut text = [0u8; LONGEST_TEXT];
+    let length = put_text(&mut text, answered(input));
+    buffer::put(out, 0, &text[..length])
+}
+
+fn answered(input: &[u8]) -> Asked
+    ensures { λ r. ⌜ toldAsked r ≡ spec.answered (now (input .entry)) ⌝ }
+{
+    match genesis_at(input) {
+        Start::Fault => refused(GENESIS),
+        Start::Genesis(from, to) => match number::read(input, to) {
+            Reading::Value(clock, at) => stated(&input[from..to], Slot(clock), &input[at..]),
+            Reading::Cut => refused(CLOCK),
+            Reading::Badly => refused(CLOCK),
+        },
+    }
+}
+
+fn genesis_at(input: &[u8]) -> Start
+    ensures { λ r. ⌜ toldStart (now (input .entry)) r ≡ spec.genesisAt (now (input .entry)) ⌝ }
+    ensures { λ r. ⌜ Inside (length (now (input .entry))) r ⌝ }
+{
+    let Reading::Value(size, from) = number::read(input, 0) else {
+        return Start::Fault;
+    };
+    if LONGEST_GENESIS < size {
+        return Start::Fault;
+    }
+    if !fits(input.len(), from, size as usize) {
+        return Start::Fault;
+    }
+    let to = from + size as usize;
+    let answer = genesis::read(&input[from..to]).answer;
+    match answer {
+        genesis::Answer::Read => Start::Genesis(from, to),
+        genesis::Answer::Refused => Start::Fault,
+    }
+}
+
+// The report at a slot, on a chain that is a whole slice.
+fn stated(genesis: &[u8], clock: Slot, held: &[u8]) -> Asked
+    ensures { λ r. ⌜ toldAsked r ≡ spec.stated (now (genesis .entry)) (clock .0) (now (held .entry)) ⌝ }
+{
+    let report = report::report(genesis, clock, held, held.len());
+    Asked { clock, report }
+}
+
+fn refused(number: u32) -> Asked
+    ensures { λ r. ⌜ toldAsked r ≡ refuses number 0 ⌝ }
+{
+    let report = report::refused(number, BlockCount(0));
+    Asked {
+        clock: Slot(0),
+        report,
+    }
+}

@@ -1,0 +1,88 @@
+// The lines of the text, written where there is room for them.
+use crate::Asked;
+use crate::decimal;
+use buffer::after;
+use chain::Answer;
+use order::Release;
+ghost use mathlib.Core.Path.{_≡_};
+ghost use Prim.Native.Nat.{_≤_};
+ghost use lib.ListN.{length};
+ghost use Rattle.laws.specs.Placed.{Room, Wrote};
+ghost use Rattle.printed.specs.Station as spec;
+ghost use Rattle.printed.specs.Answers.{toldAsked};
+
+// The whole text of an answer.
+pub fn put_text(out: &mut [u8], asked: Asked) -> usize
+    requires { ⌜ Room (now out) 0 (spec.textOf (toldAsked asked)) ⌝ }
+    ensures { λ r. ⌜ Wrote (now (out .entry)) 0 (spec.textOf (toldAsked asked)) r (now (out .exit)) ⌝ }
+{
+    let report = asked.report;
+    let answer = report.answer;
+    let releases = report.releases;
+    match answer {
+        Answer::Refused(number, place) => put_refusal(out, number, place.0),
+        Answer::Good => {
+            let next = put_first(out, asked.clock.0, report.held.0, report.settled.0);
+            put_displays(out, next, &releases)
+        }
+    }
+}
+
+fn put_refusal(out: &mut [u8], number: u32, place: u32) -> usize
+    requires { ⌜ Room (now out) 0 (spec.refusedText number place) ⌝ }
+    ensures { λ r. ⌜ Wrote (now (out .entry)) 0 (spec.refusedText number place) r (now (out .exit)) ⌝ }
+{
+    let next = after(buffer::put(out, 0, b"refused "), 0);
+    put_two(out, next, number, place)
+}
+
+fn put_first(out: &mut [u8], clock: u32, held: u32, settled: u32) -> usize
+    requires { ⌜ Room (now out) 0 (spec.firstLine clock held settled) ⌝ }
+    ensures { λ r. ⌜ Wrote (now (out .entry)) 0 (spec.firstLine clock held settled) r (now (out .exit)) ⌝ }
+{
+    let second = put_word(out, 0, clock, b' ');
+    let third = put_word(out, second, held, b' ');
+    put_word(out, third, settled, b'\n')
+}
+
+fn put_displays(out: &mut [u8], at: usize, releases: &[Release; 64]) -> usize
+    requires { ⌜ Room (now out) at (spec.displayLines (now releases) 64) ⌝ }
+    ensures { λ r. ⌜ Wrote (now (out .entry)) at (spec.displayLines (now (releases .entry)) 64) r (now (out .exit)) ⌝ }
+{
+    let mut place = at;
+    let mut display: u32 = 0;
+    while display < 64 {
+        place = put_display(out, place, display, releases[display as usize]);
+        display += 1;
+    }
+    place
+}
+
+// The line of a display, if its release is not 0.
+fn put_display(out: &mut [u8], at: usize, display: u32, release: Release) -> usize
+    requires { ⌜ Room (now out) at (spec.lineOf display release) ⌝ }
+    ensures { λ r. ⌜ Wrote (now (out .entry)) at (spec.lineOf display release) r (now (out .exit)) ⌝ }
+{
+    if release == 0 {
+        return at;
+    }
+    put_two(out, at, display, release)
+}
+
+fn put_two(out: &mut [u8], at: usize, first: u32, second: u32) -> usize
+    requires { ⌜ Room (now out) at (spec.twoNumbers first second) ⌝ }
+    ensures { λ r. ⌜ Wrote (now (out .entry)) at (spec.twoNumbers first second) r (now (out .exit)) ⌝ }
+{
+    let next = put_word(out, at, first, b' ');
+    put_word(out, next, second, b'\n')
+}
+
+// A number, and a space or a newline behind it.
+fn put_word(out: &mut [u8], at: usize, value: u32, behind: u8) -> usize
+    requires { ⌜ Room (now out) at (spec.word value behind) ⌝ }
+    ensures { λ r. ⌜ Wrote (now (out .entry)) at (spec.word value behind) r (now (out .exit)) ⌝ }
+{
+    let next = decimal::put(out, at, value as u64);
+    out[next] = behind;
+    next + 1
+}
