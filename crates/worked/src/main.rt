@@ -3,7 +3,9 @@ mod adoptions;
 mod blocks;
 mod chains;
 mod fields;
+mod issues;
 mod orders;
+mod pools;
 mod print;
 mod tables;
 mod walks;
@@ -110,6 +112,12 @@ fn answer(line: &[u8]) {
         return;
     }
     if adoptions::answer(op, line) {
+        return;
+    }
+    if pools::answer(op, line) {
+        return;
+    }
+    if issues::answer(op, line) {
         return;
     }
     print::text(b"no such op");

@@ -96,7 +96,7 @@ fn front_of(line: &[u8], orders: usize) -> Front {
     }
 }
 
-fn signature(line: &[u8], spaces: usize) -> [u8; 64] {
+pub fn signature(line: &[u8], spaces: usize) -> [u8; 64] {
     let mut signature = [0u8; 64];
     fields::bytes(line, spaces, &mut signature);
     signature
@@ -121,7 +121,7 @@ fn orders_of(fields: &[u8]) -> Orders {
     }
 }
 
-fn order_of(fields: &[u8]) -> Order {
+pub fn order_of(fields: &[u8]) -> Order {
     Order {
         display: fields::number(fields, 0),
         expected: fields::number(fields, 1),

@@ -8,8 +8,10 @@ mod chains;
 mod choices;
 mod faults;
 mod held;
+mod issues;
 mod judging;
 mod orders;
+mod pools;
 mod random;
 mod tables;
 mod walks;
@@ -33,6 +35,8 @@ fn document() -> Vec<Section> {
         held::sections(),
         choices::sections(),
         adoptions::sections(),
+        pools::sections(),
+        issues::sections(),
     ]
     .into_iter()
     .flatten()
