@@ -1,6 +1,6 @@
--- How a number's digits go on from its lowest one, and how many there are.
+-- How a number's digits go on from its lowest one, how many there are, and that they are worth the number.
 -- Assumes nothing.
-use Prim.Native.Nat.{ℕ, zero, suc, _+_, _/_, _%_, _^_, _<_, _≤_, zero-le}
+use Prim.Native.Nat.{ℕ, zero, suc, _+_, _-_, _*_, _/_, _%_, _^_, _<_, _≤_, zero-le}
 use mathlib.Core.Path.{_≡_, refl, ap, _∙_}
 use mathlib.Core.List.{List, [], _∷_, _++_}
 use native.Mathlib.Omega.{arith}
@@ -9,6 +9,8 @@ use lib.Dec.{lit<}
 use lib.ListN.{length, length-append, set}
 use borrow.Author.Tests.{lt-ltb, le-ltb}
 use Rattle.laws.proofs.Cases.{lt-cases}
+use Rattle.laws.specs.Fold.{folded}
+use Rattle.laws.proofs.Fold.{folded-append}
 use Rattle.laws.specs.Placed.{Wrote}
 use Rattle.printed.specs.Decimal.{digit, digits, decimal}
 
@@ -55,3 +57,21 @@ at-most-twenty v = digits-few 20 v
 -- one byte that is written
 pub wrote-one : (out : List ℕ) (at byte : ℕ) → Wrote out at (byte ∷ []) (at + 1) (set out at byte)
 wrote-one out at byte = record { place = refl; buffer = refl }
+
+-- what digits are worth, and that a number's are worth the number
+abbrev pub worth : List ℕ → ℕ
+worth l = folded (λ value letter. 10 * value + (letter - 48)) 0 l
+
+worth-more : (front : List ℕ) (d : ℕ) → worth (front ++ (digit d ∷ [])) ≡ 10 * worth front + d
+worth-more front d = folded-append (λ (value letter : ℕ). 10 * value + (letter - 48)) 0 front (digit d ∷ []) ∙ omega arith
+
+digits-worth : (k v : ℕ) → v < 10 ^ suc k → worth (digits (suc k) v) ≡ v
+digits-worth zero v h = rw (one-digit 0 v h) (omega arith)
+digits-worth (suc k) v h =
+    lt-cases v 10 (λ small. rw (one-digit (suc k) v small) (omega arith))
+    (λ large.
+    rw (more-digits (suc k) v large, worth-more (digits (suc k) (v / 10)) (v % 10), digits-worth k (v / 10) (above (suc k) v h)) (omega arith))
+
+pub decimal-worth : (v : ℕ) → v < 10 ^ 20 → worth (decimal v) ≡ v
+unfolding decimal
+decimal-worth v h = digits-worth 19 v h

@@ -17,27 +17,30 @@ use Rattle.genesis.specs.Genesis.{genesisOf}
 use Rattle.genesis.specs.declared.Genesis.{Genesis}
 use Rattle.printed.specs.Station.{genesisAt, stated, answered}
 
--- a number that reads ends within the bytes
-groups-inside : (k : ℕ) (s : List ℕ) (at : ℕ) (r : Found ℕ) → readGroups k s at ≡ gives r → r .next ≤ length s
+-- a number that reads ends within the bytes, and after five of them at most
+abbrev Ends : List ℕ → ℕ → Found ℕ → Type 0
+Ends s most r = (r .next ≤ length s) × (r .next ≤ most)
+
+groups-end : (k : ℕ) (s : List ℕ) (at : ℕ) (r : Found ℕ) → readGroups k s at ≡ gives r → Ends s (at + k) r
 unfolding readGroups
-groups-inside zero s at r e = gives-not-refuses e
-groups-inside (suc k) s at r e =
+groups-end zero s at r e = gives-not-refuses e
+groups-end (suc k) s at r e =
     let (inside, rest) = unless-gives (ltb at (length s)) 3 0 _ r e in
     let here = ltb-true at (length s) inside in
     lt-cases (getD s at 0) 128
-    (λ last. subst (λ (q : Found ℕ). q .next ≤ length s) (gives-same (simp (lt-ltb _ _ last) at rest)) (omega arith))
+    (λ last. subst (Ends s (at + suc k)) (gives-same (simp (lt-ltb _ _ last) at rest)) (omega arith, omega arith))
     (λ more.
     let (q, reads, ends) = then-gives (readGroups k s (at + 1)) _ r (simp (le-ltb _ _ more) at rest) in
     let (shortest, is) = unless-gives (ltb 0 (q .value)) 4 0 _ r ends in
-    let further = groups-inside k s (at + 1) q reads in
-    subst (λ (q : Found ℕ). q .next ≤ length s) (gives-same is) further)
+    let (within, few) = groups-end k s (at + 1) q reads in
+    subst (Ends s (at + suc k)) (gives-same is) (within, omega arith))
 
-pub number-inside : (s : List ℕ) (at : ℕ) (r : Found ℕ) → numberAt s at ≡ gives r → r .next ≤ length s
+pub number-ends : (s : List ℕ) (at : ℕ) (r : Found ℕ) → numberAt s at ≡ gives r → (r .next ≤ length s) × (r .next ≤ at + 5)
 unfolding numberAt
-number-inside s at r e =
+number-ends s at r e =
     let (q, reads, fits) = then-gives (readGroups 5 s at) _ r e in
     let (small, is) = unless-gives (leb (q .value) largest) 4 0 _ r fits in
-    subst (λ (q : Found ℕ). q .next ≤ length s) (gives-same is) (groups-inside 5 s at q reads)
+    subst (Ends s (at + 5)) (gives-same is) (groups-end 5 s at q reads)
 
 -- a genesis length that reads: too large, more than there is, or the length of bytes that are a genesis or none
 module _ (input : List ℕ) (size from : ℕ) (reads : numberAt input 0 ≡ found size from) where
@@ -63,9 +66,9 @@ module _ (input : List ℕ) (size from : ℕ) (reads : numberAt input 0 ≡ foun
           ap (λ (genesis : List ℕ). found genesis (from + size)) part-same ∙ rw (reads, le-leb _ _ few, le-leb _ _ enough, is)
 
 -- what an input asks for
-pub no-genesis : (input : List ℕ) → genesisAt input ≡ refuses 1 0 → answered input ≡ refuses 1 0
+pub no-genesis : (input : List ℕ) (number place : ℕ) → genesisAt input ≡ refuses number place → answered input ≡ refuses number place
 unfolding answered
-no-genesis input e = rw e
+no-genesis input number place e = rw e
 
 module _ (input genesis : List ℕ) (to : ℕ) (begins : genesisAt input ≡ found genesis to) where
   pub no-clock : (number place : ℕ) → numberAt input to ≡ refuses number place → answered input ≡ refuses 2 0

@@ -1,3 +1,4 @@
 pub mod Decimals
 pub mod Texts
 pub mod Inputs
+pub mod Cut

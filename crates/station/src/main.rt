@@ -3,7 +3,7 @@ use libc::STDIN_FILENO;
 use libc::STDOUT_FILENO;
 
 // The longest genesis length and the longest now are 5 bytes each, the longest genesis 1,315. Of the chain 64,257 bytes are read, so that one that is
-// too long is seen to be, however long it is.
+// too long is seen to be: what follows these bytes changes nothing (`cut-input` of `printed`).
 const ROOM: usize = 5 + 1315 + 5 + 64257;
 
 fn main() {

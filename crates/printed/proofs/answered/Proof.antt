@@ -11,7 +11,7 @@ use Rattle.laws.specs.Bytes.{part}
 use Rattle.laws.specs.Told.{found}
 use Rattle.number.specs.Number.{numberAt}
 use Rattle.printed.specs.Station.{genesisAt, stated}
-use Rattle.printed.proofs.Inputs.{number-inside, no-genesis, no-clock, all-read}
+use Rattle.printed.proofs.Inputs.{number-ends, no-genesis, no-clock, all-read}
 use Rattle.printed.proofs.answered.Statement.{statement}
 use Rattle.printed.proofs.answered.Tie as tie
 
@@ -51,7 +51,7 @@ clock-is c = sym (rw (c .clock .given .1) at (c .before .before .read .ensures))
 behind : (c : tie.After-clock) → c .clock .given .0 .1 .0 ≤ length (now (c .before .before .before .before .before .before .before .before .args .input))
 behind c =
     let from = c .before .before .before .before in
-    number-inside (now (from .before .before .before .before .args .input)) (from .from .given .0 .1 .0) _ (clock-is c)
+    number-ends (now (from .before .before .before .before .args .input)) (from .from .given .0 .1 .0) _ (clock-is c) .0
 
 sub-stated : tie.Need-sub-stated
 sub-stated c = inside (c .before .before .before .before .before) .0
@@ -90,7 +90,7 @@ returns : tie.Need-returns
 returns c =
     let start = c .before .before .before .before .before in
     let told = sym (rw (c .before .enum-told .given .1) at (c .before .before .before .genesis-at .ensures .0)) in
-    c .refused .ensures ∙ sym (no-genesis (now (start .args .input)) told)
+    c .refused .ensures ∙ sym (no-genesis (now (start .args .input)) 1 0 told)
 
 returns-2 : tie.Need-returns-2
 returns-2 c =
