@@ -25,11 +25,13 @@ extern "C" {
 #define LEDGER_CONTROLLERS 31        /* the most controllers of a table */
 #define LEDGER_SLOTS 256             /* slots are 1 to 256 */
 #define LEDGER_ORDERS 8              /* the most orders of a block */
+#define LEDGER_POOL_ROOM 64          /* the most entries of a pool */
 #define LEDGER_NUMBER_BYTES 5        /* the most bytes of a number */
 #define LEDGER_KEY_BYTES 32
 #define LEDGER_LINK_BYTES 32
 #define LEDGER_SIGNATURE_BYTES 64
 #define LEDGER_SLOT_TEXT_BYTES 6     /* the most bytes of a slot text */
+#define LEDGER_BLOCK_TEXT_BYTES 192  /* the most bytes of a block text: a draft behind five letters */
 #define LEDGER_GENESIS_BYTES 1315    /* the most bytes of a genesis */
 #define LEDGER_BLOCK_LEAST_BYTES 162 /* the fewest bytes of a block */
 #define LEDGER_BLOCK_BYTES 251       /* and the most */
@@ -45,16 +47,19 @@ enum ledger_refusal {
     LEDGER_CUT = 3,            /* bytes end inside a block or number */
     LEDGER_BAD_NUMBER = 4,     /* a number is not shortest, or too large */
     LEDGER_OUT_OF_RANGE = 5,   /* order count, display or slot out of its range */
-    LEDGER_BAD_STAMP = 6,      /* a stamp not above the one before */
+    LEDGER_BAD_STAMP = 6,      /* a stamp not above the one before; draft or append: held chain ends at now */
     LEDGER_LATE_STAMP = 7,     /* a delivered stamp not below now */
     LEDGER_BAD_VERDICT = 8,    /* verdict not 3, or missing */
     LEDGER_BAD_LINK = 9,       /* link wrong */
     LEDGER_BAD_ORDER = 10,     /* an order not valid at its point */
     LEDGER_NOT_LONGER = 11,    /* not more blocks than held */
     LEDGER_NOT_ITS_TURN = 12,  /* controller not 1 to n, or not its turn */
+    LEDGER_POOL_FULL = 13,     /* 64 entries still count */
+    LEDGER_BAD_OFFER = 14,     /* new order not valid where it would stand */
     LEDGER_SHORT_BUFFER = 15,  /* lent output too short */
     LEDGER_TOO_LONG = 16,      /* delivered chain over 64,256 bytes, or a slice to digest over 65,536 */
-    LEDGER_BAD_HELD = 17       /* held chain bad */
+    LEDGER_BAD_HELD = 17,      /* held chain bad */
+    LEDGER_BAD_POOL = 18       /* pool bad */
 };
 
 /* A slot, or a block's stamp. Apart from a number of blocks, so that neither can be taken for the other. */
@@ -92,6 +97,22 @@ typedef struct {
     ledger_front front;
     uint8_t block_signature[LEDGER_SIGNATURE_BYTES];
 } ledger_block;
+
+/* An order, and the slot in which it was pooled. */
+typedef struct {
+    ledger_order order;
+    ledger_slot slot;
+} ledger_entry;
+
+/* The first `count` entries are meant. A pool of no entries is all zeros. */
+typedef struct {
+    uint32_t count;
+    ledger_entry entries[LEDGER_POOL_ROOM];
+} ledger_pool;
+
+typedef struct {
+    uint8_t bytes[LEDGER_SIGNATURE_BYTES];
+} ledger_signature;
 
 /* A genesis table: n controllers, of whom t may be faulty, and u slots that an order stays pooled. */
 typedef struct {
@@ -168,6 +189,18 @@ typedef struct {
     ledger_block_count count;
 } ledger_adopt_answer;
 
+typedef struct {
+    uint32_t refusal;
+    uint32_t place;
+    ledger_pool pool; /* as it is then: as it came where the order was refused */
+} ledger_pool_answer;
+
+typedef struct {
+    uint32_t refusal;
+    uint32_t place;
+    size_t length; /* of what was written; of append: the held chain's new length */
+} ledger_issue_answer;
+
 /* Reads the number at a place: 3, 4. */
 ledger_number_answer ledger_read_number(const uint8_t *bytes, size_t bytes_length, size_t at);
 
@@ -216,6 +249,25 @@ ledger_choose_answer ledger_choose(const uint8_t *genesis, size_t genesis_length
 ledger_adopt_answer ledger_adopt(const uint8_t *genesis, size_t genesis_length, ledger_slot clock, uint8_t *held,
                                  size_t held_length, size_t length, const uint8_t *delivered, size_t delivered_length,
                                  const uint8_t *verdicts, size_t verdicts_length);
+
+/* Pools an order behind the entries that still count: 1, 2, 17, 18, 5, 14, 13. The held chain is the first `length` bytes of `held`. */
+ledger_pool_answer ledger_pool_order(const uint8_t *genesis, size_t genesis_length, ledger_slot clock, const uint8_t *held,
+                                     size_t held_length, size_t length, ledger_pool pool, ledger_order order);
+
+/* Writes the next block without its last 64 bytes: 1, 2, 17, 18, 12, 6, 15. */
+ledger_issue_answer ledger_draft(const uint8_t *genesis, size_t genesis_length, ledger_slot clock, const uint8_t *held,
+                                 size_t held_length, size_t length, ledger_pool pool, uint32_t controller,
+                                 ledger_signature slot_signature, uint8_t *out, size_t out_length);
+
+/* Writes the text of the next block that a host signs, and refuses as the draft does. */
+ledger_issue_answer ledger_block_text(const uint8_t *genesis, size_t genesis_length, ledger_slot clock, const uint8_t *held,
+                                      size_t held_length, size_t length, ledger_pool pool, uint32_t controller,
+                                      ledger_signature slot_signature, uint8_t *out, size_t out_length);
+
+/* Writes the next block after the held chain, the first `length` bytes of a buffer of `held_length`: 1, 2, 17, 18, 12, 6, 15. */
+ledger_issue_answer ledger_append(const uint8_t *genesis, size_t genesis_length, ledger_slot clock, uint8_t *held,
+                                  size_t held_length, size_t length, ledger_pool pool, uint32_t controller,
+                                  ledger_signature slot_signature, ledger_signature block_signature);
 
 #ifdef __cplusplus
 }

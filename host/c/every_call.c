@@ -150,10 +150,42 @@ static int adopts(const struct chain *c) {
     return 0;
 }
 
+/* Pools an order at slot 20, controller 2's turn, behind the two blocks that are held, and issues it. */
+static int issues(const struct chain *c) {
+    const ledger_slot now = {20};
+    uint8_t held[3 * LEDGER_BLOCK_BYTES], draft[LEDGER_BLOCK_BYTES], text[LEDGER_BLOCK_TEXT_BYTES];
+    memset(held, FILLER, sizeof held);
+    memcpy(held, c->bytes, c->length);
+    ledger_pool pool;
+    memset(&pool, 0, sizeof pool);
+    ledger_order order = {.display = 2, .expected = 42, .new_release = 300};
+    ledger_pool_answer pooled = ledger_pool_order(c->genesis, c->genesis_length, now, held, sizeof held, c->length, pool, order);
+    EXPECT(pooled.refusal == 0 && pooled.place == 0 && pooled.pool.count == 1);
+    EXPECT(memcmp(&pooled.pool.entries[0].order, &order, sizeof order) == 0 && pooled.pool.entries[0].slot.number == 20);
+    pool = pooled.pool;
+    pooled = ledger_pool_order(c->genesis, c->genesis_length, now, held, sizeof held, c->length, pool, order);
+    EXPECT(pooled.refusal == LEDGER_BAD_OFFER && memcmp(&pooled.pool, &pool, sizeof pool) == 0);
+    ledger_signature first, second;
+    memset(&first, 0x51, sizeof first);
+    memset(&second, 0xB1, sizeof second);
+    ledger_issue_answer issued = ledger_draft(c->genesis, c->genesis_length, now, held, sizeof held, c->length, pool, 2, first, draft, sizeof draft);
+    EXPECT(issued.refusal == 0 && issued.place == 0 && issued.length == 32 + 5 + 1 + 64);
+    EXPECT(memcmp(draft + 32, "\x01\x02\x2A\xAC\x02\x14\x51", 7) == 0 && draft[issued.length - 1] == 0x51);
+    issued = ledger_block_text(c->genesis, c->genesis_length, now, held, sizeof held, c->length, pool, 2, first, text, sizeof text);
+    EXPECT(issued.refusal == 0 && issued.length == 5 + 102);
+    EXPECT(memcmp(text, "block", 5) == 0 && memcmp(text + 5, draft, 102) == 0);
+    issued = ledger_draft(c->genesis, c->genesis_length, now, held, sizeof held, c->length, pool, 3, first, draft, sizeof draft);
+    EXPECT(issued.refusal == LEDGER_NOT_ITS_TURN && issued.length == 0);
+    issued = ledger_append(c->genesis, c->genesis_length, now, held, sizeof held, c->length, pool, 2, first, second);
+    EXPECT(issued.refusal == 0 && issued.place == 0 && issued.length == c->length + 102 + 64);
+    EXPECT(memcmp(held + c->length, draft, 102) == 0 && held[issued.length - 1] == 0xB1 && held[issued.length] == FILLER);
+    return 0;
+}
+
 int every_call(void) {
     struct chain chain;
     chain_of(&chain);
-    const int lines[] = {numbers(), tables(), blocks(), checks(&chain), adopts(&chain)};
+    const int lines[] = {numbers(), tables(), blocks(), checks(&chain), adopts(&chain), issues(&chain)};
     for (size_t i = 0; i < sizeof lines / sizeof *lines; i++)
         if (lines[i] != 0)
             return lines[i];

@@ -39,11 +39,7 @@ pub fn walk_step(chain: &[u8], at: usize) -> Result<Option<(Block, usize)>, Refu
 fn lent(block: &Block) -> raw::Block {
     let mut list = [raw::Order::default(); 8];
     for (place, order) in list.iter_mut().zip(&block.orders) {
-        *place = raw::Order {
-            display: order.display,
-            expected: order.expected,
-            new: order.new,
-        };
+        *place = lent_order(order);
     }
     raw::Block {
         front: raw::Front {
@@ -59,22 +55,32 @@ fn lent(block: &Block) -> raw::Block {
     }
 }
 
+pub fn lent_order(order: &Order) -> raw::Order {
+    raw::Order {
+        display: order.display,
+        expected: order.expected,
+        new: order.new,
+    }
+}
+
 /// A block that has crossed.
 fn taken(block: &raw::Block) -> Block {
     let front = &block.front;
     let orders = front.orders.list.iter().take(front.orders.count as usize);
     Block {
         link: front.link,
-        orders: orders
-            .map(|order| Order {
-                display: order.display,
-                expected: order.expected,
-                new: order.new,
-            })
-            .collect(),
+        orders: orders.map(taken_order).collect(),
         slot: Slot(front.slot.0),
         slot_signature: front.slot_signature,
         block_signature: block.block_signature,
+    }
+}
+
+pub fn taken_order(order: &raw::Order) -> Order {
+    Order {
+        display: order.display,
+        expected: order.expected,
+        new: order.new,
     }
 }
 

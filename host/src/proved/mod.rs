@@ -3,12 +3,14 @@
 mod blocks;
 mod chains;
 mod numbers;
+mod pools;
 mod raw;
 mod tables;
 
 pub use blocks::{read_block, slot_text, walk_step, write_block};
 pub use chains::{adopt, check, choose};
 pub use numbers::{digest, read_number, write_number};
+pub use pools::{append, block_text, draft, offer};
 pub use tables::{depth, find_key, read_genesis, turn, Table};
 
 use crate::second::Refusal;

@@ -80,7 +80,7 @@ mod tests {
 
     #[test]
     fn digests_agree() {
-        let message: Vec<u8> = (0..70_000u32).map(|i| (i * i >> 5) as u8).collect();
+        let message: Vec<u8> = (0..70_000u32).map(|i| ((i * i) >> 5) as u8).collect();
         for length in (0..300).chain([1_000, 4_095, 65_535, 65_536, 65_537, 70_000]) {
             assert_eq!(
                 digest(&message[..length]),

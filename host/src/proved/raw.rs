@@ -51,6 +51,24 @@ pub struct Genesis {
 }
 
 #[repr(C)]
+#[derive(Debug, Clone, Copy, PartialEq, Eq)]
+pub struct Entry {
+    pub order: Order,
+    pub slot: Slot,
+}
+
+#[repr(C)]
+#[derive(Debug, Clone, Copy, PartialEq, Eq)]
+pub struct Pool {
+    pub count: u32,
+    pub entries: [Entry; 64],
+}
+
+#[repr(C)]
+#[derive(Debug, Clone, Copy, PartialEq, Eq)]
+pub struct Signature(pub [u8; 64]);
+
+#[repr(C)]
 #[derive(Debug, PartialEq, Eq)]
 pub struct NumberAnswer {
     pub refusal: u32,
@@ -136,6 +154,22 @@ pub struct AdoptAnswer {
     pub count: BlockCount,
 }
 
+#[repr(C)]
+#[derive(Debug, PartialEq, Eq)]
+pub struct PoolAnswer {
+    pub refusal: u32,
+    pub place: u32,
+    pub pool: Pool,
+}
+
+#[repr(C)]
+#[derive(Debug, PartialEq, Eq)]
+pub struct IssueAnswer {
+    pub refusal: u32,
+    pub place: u32,
+    pub length: usize,
+}
+
 extern "C" {
     pub fn ledger_read_number(bytes: *const u8, bytes_length: usize, at: usize) -> NumberAnswer;
     pub fn ledger_write_number(
@@ -190,4 +224,52 @@ extern "C" {
         verdicts: *const u8,
         verdicts_length: usize,
     ) -> AdoptAnswer;
+    pub fn ledger_pool_order(
+        genesis: *const u8,
+        genesis_length: usize,
+        clock: Slot,
+        held: *const u8,
+        held_length: usize,
+        length: usize,
+        pool: Pool,
+        order: Order,
+    ) -> PoolAnswer;
+    pub fn ledger_draft(
+        genesis: *const u8,
+        genesis_length: usize,
+        clock: Slot,
+        held: *const u8,
+        held_length: usize,
+        length: usize,
+        pool: Pool,
+        controller: u32,
+        slot_signature: Signature,
+        out: *mut u8,
+        out_length: usize,
+    ) -> IssueAnswer;
+    pub fn ledger_block_text(
+        genesis: *const u8,
+        genesis_length: usize,
+        clock: Slot,
+        held: *const u8,
+        held_length: usize,
+        length: usize,
+        pool: Pool,
+        controller: u32,
+        slot_signature: Signature,
+        out: *mut u8,
+        out_length: usize,
+    ) -> IssueAnswer;
+    pub fn ledger_append(
+        genesis: *const u8,
+        genesis_length: usize,
+        clock: Slot,
+        held: *mut u8,
+        held_length: usize,
+        length: usize,
+        pool: Pool,
+        controller: u32,
+        slot_signature: Signature,
+        block_signature: Signature,
+    ) -> IssueAnswer;
 }
