@@ -47,6 +47,7 @@ pub fn station(input: &[u8], out: &mut [u8]) -> Writing
     buffer::put(out, 0, &text[..length])
 }
 
+// Takes the input apart and reports on it.
 fn answered(input: &[u8]) -> Asked
     ensures { λ r. ⌜ toldAsked r ≡ spec.answered (now (input .entry)) ⌝ }
 {
@@ -60,6 +61,7 @@ fn answered(input: &[u8]) -> Asked
     }
 }
 
+// The genesis is judged here already, and once more for the report: a bad one comes before a badly written now.
 fn genesis_at(input: &[u8]) -> Start
     ensures { λ r. ⌜ toldStart (now (input .entry)) r ≡ spec.genesisAt (now (input .entry)) ⌝ }
     ensures { λ r. ⌜ Inside (length (now (input .entry))) r ⌝ }
