@@ -201,6 +201,15 @@ typedef struct {
     size_t length; /* of what was written; of append: the held chain's new length */
 } ledger_issue_answer;
 
+typedef struct {
+    uint32_t refusal;
+    uint32_t place;
+    ledger_block_count held;
+    ledger_block_count settled;
+    size_t length;                      /* of the settled blocks in bytes */
+    uint32_t releases[LEDGER_DISPLAYS]; /* after the settled blocks */
+} ledger_report_answer;
+
 /* Reads the number at a place: 3, 4. */
 ledger_number_answer ledger_read_number(const uint8_t *bytes, size_t bytes_length, size_t at);
 
@@ -268,6 +277,10 @@ ledger_issue_answer ledger_block_text(const uint8_t *genesis, size_t genesis_len
 ledger_issue_answer ledger_append(const uint8_t *genesis, size_t genesis_length, ledger_slot clock, uint8_t *held,
                                   size_t held_length, size_t length, ledger_pool pool, uint32_t controller,
                                   ledger_signature slot_signature, ledger_signature block_signature);
+
+/* Reports on the held chain, the first `length` bytes of `held`: 1, 2, 17. */
+ledger_report_answer ledger_report(const uint8_t *genesis, size_t genesis_length, ledger_slot clock, const uint8_t *held,
+                                   size_t held_length, size_t length);
 
 #ifdef __cplusplus
 }

@@ -182,10 +182,22 @@ static int issues(const struct chain *c) {
     return 0;
 }
 
+/* The stamps are 1 and 3, and the depth is 4. */
+static int reports(const struct chain *c) {
+    ledger_report_answer report =
+        ledger_report(c->genesis, c->genesis_length, (ledger_slot){7}, c->bytes, sizeof c->bytes, c->length);
+    EXPECT(report.refusal == 0 && report.place == 0);
+    EXPECT(report.held.number == 2 && report.settled.number == 1 && report.length == c->first);
+    EXPECT(report.releases[1] == 0 && report.releases[2] == 41 && report.releases[63] == 0);
+    report = ledger_report(c->genesis, c->genesis_length, (ledger_slot){2}, c->bytes, sizeof c->bytes, c->length);
+    EXPECT(report.refusal == LEDGER_BAD_HELD && report.place == 2 && report.held.number == 0);
+    return 0;
+}
+
 int every_call(void) {
     struct chain chain;
     chain_of(&chain);
-    const int lines[] = {numbers(), tables(), blocks(), checks(&chain), adopts(&chain), issues(&chain)};
+    const int lines[] = {numbers(), tables(), blocks(), checks(&chain), adopts(&chain), issues(&chain), reports(&chain)};
     for (size_t i = 0; i < sizeof lines / sizeof *lines; i++)
         if (lines[i] != 0)
             return lines[i];

@@ -1,4 +1,4 @@
-// The calls on whole chains: the check of a delivered one, the choice, and adoption.
+// The calls on whole chains: the check of a delivered one, the choice, adoption, and the report on a held one.
 use chain::Answer;
 use order::BlockCount;
 use order::Release;
@@ -10,6 +10,8 @@ ghost use Rattle.chain.specs.Chain.{checked};
 ghost use Rattle.chain.specs.Answers.{endOr};
 ghost use Rattle.adopt.specs.Adopt.{accepted, choice, chosen, adopted, adopting};
 ghost use Rattle.adopt.specs.Answers.{sizeAndCountOr};
+ghost use Rattle.report.specs.Report.{reported};
+ghost use Rattle.report.specs.Answers.{valuesOr};
 ghost use Rattle.ledger.specs.Answers.{numberIn, placeIn, goodIn};
 
 // The block count and the releases after the last block, zeros where the chain was refused.
@@ -36,6 +38,17 @@ pub struct AdoptAnswer {
     pub place: u32,
     pub length: usize,
     pub count: BlockCount,
+}
+
+// The block counts, the settled bytes' length and the releases after the settled blocks, zeros where it was refused.
+#[repr(C)]
+pub struct ReportAnswer {
+    pub refusal: u32,
+    pub place: u32,
+    pub held: BlockCount,
+    pub settled: BlockCount,
+    pub length: usize,
+    pub releases: [Release; 64],
 }
 
 #[no_mangle]
@@ -104,6 +117,35 @@ pub extern "C" fn ledger_adopt(
         place: place_of(answer),
         length: adopted.length,
         count,
+    }
+}
+
+#[no_mangle]
+pub extern "C" fn ledger_report(
+    genesis: &[u8],
+    clock: Slot,
+    held: &[u8],
+    length: usize,
+) -> ReportAnswer
+    ensures refusal { λ r. ⌜ r .refusal ≡ numberOf (reported (now (genesis .entry)) (clock .0) (now (held .entry)) length) ⌝ }
+    ensures place { λ r. ⌜ r .place ≡ placeOf (reported (now (genesis .entry)) (clock .0) (now (held .entry)) length) ⌝ }
+    ensures held { λ r. ⌜ r .held .0 ≡ valuesOr (reported (now (genesis .entry)) (clock .0) (now (held .entry)) length) .held ⌝ }
+    ensures settled { λ r. ⌜ r .settled .0 ≡ valuesOr (reported (now (genesis .entry)) (clock .0) (now (held .entry)) length) .settled ⌝ }
+    ensures length { λ r. ⌜ r .length ≡ valuesOr (reported (now (genesis .entry)) (clock .0) (now (held .entry)) length) .length ⌝ }
+    ensures releases { λ r. ⌜ r .releases ≡ valuesOr (reported (now (genesis .entry)) (clock .0) (now (held .entry)) length) .releases ⌝ }
+{
+    let report = report::report(genesis, clock, held, length);
+    let answer = report.answer;
+    let whole = report.held;
+    let settled = report.settled;
+    let releases = report.releases;
+    ReportAnswer {
+        refusal: number_of(answer),
+        place: place_of(answer),
+        held: whole,
+        settled,
+        length: report.length,
+        releases,
     }
 }
 

@@ -1,6 +1,7 @@
 //! The calls on whole chains.
 use super::{raw, told};
 use crate::second::order::{BlockCount, Releases, Slot};
+use crate::second::report::Report;
 use crate::second::Refusal;
 
 /// Checks a chain: its block count, and the releases after the last block.
@@ -77,6 +78,32 @@ pub fn adopt(
     told(answer.refusal, answer.place, value)
 }
 
+/// Reports on the held chain.
+pub fn report(
+    genesis: &[u8],
+    now: Slot,
+    held: &[u8],
+    held_length: usize,
+) -> Result<Report, Refusal> {
+    let answer = unsafe {
+        raw::ledger_report(
+            genesis.as_ptr(),
+            genesis.len(),
+            raw::Slot(now.0),
+            held.as_ptr(),
+            held.len(),
+            held_length,
+        )
+    };
+    let value = Report {
+        held: BlockCount(answer.held.0),
+        settled: BlockCount(answer.settled.0),
+        settled_length: answer.length,
+        releases: answer.releases,
+    };
+    told(answer.refusal, answer.place, value)
+}
+
 #[cfg(test)]
 mod tests {
     use super::*;
@@ -100,9 +127,16 @@ mod tests {
         assert_eq!(first.1, other.1);
     }
 
-    /// Checks, chooses and adopts as a case says, and sees that the second implementation answers alike and leaves the same bytes.
+    fn reports_alike(case: &Case) {
+        let first = report(&case.genesis, case.now, &case.held, case.held_length);
+        let other = second::report::report(&case.genesis, case.now, &case.held, case.held_length);
+        assert_eq!(first, other);
+    }
+
+    /// Checks, reports, chooses and adopts as a case says, and sees that the second implementation answers alike and leaves the same bytes.
     fn call(case: &mut Case) -> Option<Refusal> {
         checks_alike(case);
+        reports_alike(case);
         chooses_alike(case);
         let mut second = case.clone();
         let adopted = adopt(
@@ -177,17 +211,26 @@ mod tests {
     /// Zeros stand beside a refusal.
     #[test]
     fn refused() {
-        let answer = unsafe {
-            let none = [0u8; 1].as_ptr();
-            raw::ledger_check(none, 0, raw::Slot(1), none, 0, none, 0)
-        };
+        let byte = 0u8;
+        let none = &raw const byte;
+        let checked = unsafe { raw::ledger_check(none, 0, raw::Slot(1), none, 0, none, 0) };
         let zeros = raw::CheckAnswer {
             refusal: 1,
             place: 0,
             count: raw::BlockCount(0),
             releases: [0; 64],
         };
-        assert_eq!(answer, zeros);
+        assert_eq!(checked, zeros);
+        let reported = unsafe { raw::ledger_report(none, 0, raw::Slot(1), none, 0, 0) };
+        let zeros = raw::ReportAnswer {
+            refusal: 1,
+            place: 0,
+            held: raw::BlockCount(0),
+            settled: raw::BlockCount(0),
+            length: 0,
+            releases: [0; 64],
+        };
+        assert_eq!(reported, zeros);
     }
 
     #[test]

@@ -8,7 +8,7 @@ mod raw;
 mod tables;
 
 pub use blocks::{read_block, slot_text, walk_step, write_block};
-pub use chains::{adopt, check, choose};
+pub use chains::{adopt, check, choose, report};
 pub use numbers::{digest, read_number, write_number};
 pub use pools::{append, block_text, draft, offer};
 pub use tables::{depth, find_key, read_genesis, turn, Table};

@@ -170,6 +170,17 @@ pub struct IssueAnswer {
     pub length: usize,
 }
 
+#[repr(C)]
+#[derive(Debug, PartialEq, Eq)]
+pub struct ReportAnswer {
+    pub refusal: u32,
+    pub place: u32,
+    pub held: BlockCount,
+    pub settled: BlockCount,
+    pub length: usize,
+    pub releases: [u32; 64],
+}
+
 extern "C" {
     pub fn ledger_read_number(bytes: *const u8, bytes_length: usize, at: usize) -> NumberAnswer;
     pub fn ledger_write_number(
@@ -272,4 +283,12 @@ extern "C" {
         slot_signature: Signature,
         block_signature: Signature,
     ) -> IssueAnswer;
+    pub fn ledger_report(
+        genesis: *const u8,
+        genesis_length: usize,
+        clock: Slot,
+        held: *const u8,
+        held_length: usize,
+        length: usize,
+    ) -> ReportAnswer;
 }
