@@ -1,0 +1,180 @@
+-- Demand 3's runs: what correct controllers do with the calls, slot by slot, and what is asked of a run, in the demand's words. A faulty controller is
+-- not modelled: whatever it sends is a delivery like any other.
+-- Assumes nothing.
+use Prim.Native.Nat.{ℕ, zero, suc, _+_, _<_, _≤_}
+use mathlib.Core.Path.{_≡_}
+use mathlib.Core.Bool.{Bool, true, false}
+use mathlib.Core.List.{List, [], _∷_, _++_}
+use lib.Dec.{eqb}
+use lib.ListN.{length, take, getD}
+use Rattle.laws.specs.Pick.{pick}
+use Rattle.laws.specs.Told.{Told, gives, refuses}
+use Rattle.laws.specs.Fold.{folded}
+use Rattle.laws.specs.Format.{Bytes, Each}
+use Rattle.number.specs.Number.{largest}
+use Rattle.order.specs.declared.Order.{Order}
+use Rattle.genesis.specs.Genesis.{genesisOf, turn}
+use Rattle.genesis.specs.declared.Genesis.{Genesis}
+use Rattle.block.specs.Block.{Parts, blockBytes, Fits}
+use Rattle.chain.specs.Chain.{longest, linkOf}
+use Rattle.chain.specs.Blocks.{chainBytes}
+use Rattle.adopt.specs.Adopt.{accepted, adopted, adopting}
+use Rattle.pool.specs.Pool.{poolOf, offered}
+use Rattle.pool.specs.Answers.{poolOr}
+use Rattle.pool.specs.declared.Pool.{Pool}
+use Rattle.issue.specs.Issue.{front, writing, written, appendBytes}
+use Rattle.agreement.specs.Core.{howMany}
+
+-- ---- one controller
+-- what it keeps between calls: the buffer that its host lends, how many bytes of it are the held chain, and the pool
+pub record Node : Type 0 where
+  pub buffer : List ℕ
+  pub size : ℕ
+  pub pool : Pool
+
+abbrev pub heldBytes : Node → List ℕ
+heldBytes s = take (s .size) (s .buffer)
+
+pub data Event : Type 0 where
+  delivery : (bytes verdicts : List ℕ) → Event
+  offer : Order → Event
+
+-- the new length where a call gives one, else the old one
+abbrev pub sizeOr : {A : Type 0} → ℕ → (A → ℕ) → Told A → ℕ
+sizeOr before size (gives a) = size a
+sizeOr before size (refuses number place) = before
+
+-- an event is a call: adopt, or pool an order
+abbrev pub meets : (genesis : List ℕ) (clock : ℕ) → Node → Event → Node
+meets genesis clock s (delivery bytes verdicts) = record {
+  buffer = adopting (accepted genesis clock (s .buffer) (s .size) bytes verdicts) (s .buffer) bytes;
+  size = sizeOr (s .size) (λ a. a .0) (adopted (accepted genesis clock (s .buffer) (s .size) bytes verdicts) (s .buffer) bytes);
+  pool = s .pool;
+}
+meets genesis clock s (offer order) = record {
+  buffer = s .buffer;
+  size = s .size;
+  pool = poolOr (s .pool) (offered genesis clock (s .buffer) (s .size) (s .pool) order);
+}
+
+-- issuing is the call append, with the signatures that the host gives
+abbrev pub issues : (genesis : List ℕ) (clock controller : ℕ) (signature seal : List ℕ) → Node → Node
+issues genesis clock controller signature seal s = record {
+  buffer = written (appendBytes seal) (front genesis clock (s .buffer) (s .size) (s .pool) controller signature) (s .buffer) (s .size);
+  size = sizeOr (s .size) (λ n. n) (writing (appendBytes seal) (front genesis clock (s .buffer) (s .size) (s .pool) controller signature) (s .buffer) (s .size));
+  pool = s .pool;
+}
+
+-- ---- a run
+pub record Run : Type 0 where
+  pub genesis : List ℕ
+  pub table : Genesis
+  -- the last slot
+  pub end : ℕ
+  -- which controllers, from 1 to n, are faulty
+  pub faulty : ℕ → Bool
+  -- the buffer that a controller's host lends
+  pub lent : ℕ → List ℕ
+  -- what a controller meets in a slot, in that order, before it issues; and the orders that it is offered after that
+  pub events : (controller slot : ℕ) → List Event
+  pub offers : (controller slot : ℕ) → List Order
+  -- the signatures that its host gives in a slot: the slot's, and the block's
+  pub signature : (controller slot : ℕ) → List ℕ
+  pub seal : (controller slot : ℕ) → List ℕ
+  -- whether both signatures of a block verify under the key whose turn its slot is
+  pub verifies : Parts → Bool
+
+module _ (r : Run) where
+  abbrev pub correct : ℕ → Type 0
+  correct i = (1 ≤ i) × (i ≤ r .table .n) × (r .faulty i ≡ false)
+
+  -- "start at slot 1 with no blocks and no pooled orders"
+  abbrev pub start : ℕ → Node
+  start i = record { buffer = r .lent i; size = 0; pool = poolOf [] }
+
+  -- a controller in a slot: "deliveries first", with offers between them as they come; "then issuing when it is their turn"; then more offers
+  abbrev pub afterDeliveries : (i slot : ℕ) → Node → Node
+  afterDeliveries i slot s = folded (meets (r .genesis) slot) s (r .events i slot)
+
+  abbrev pub afterIssuing : (i slot : ℕ) → Node → Node
+  afterIssuing i slot s =
+      pick (eqb (turn (r .table) slot) i) (issues (r .genesis) slot i (r .signature i slot) (r .seal i slot) (afterDeliveries i slot s)) (afterDeliveries i slot s)
+
+  abbrev pub afterOffers : (i slot : ℕ) → Node → Node
+  afterOffers i slot s = folded (λ node order. meets (r .genesis) slot node (offer order)) (afterIssuing i slot s) (r .offers i slot)
+
+  -- what it keeps when a slot has passed
+  unfoldable pub passed : (i slot : ℕ) → Node
+  passed i zero = start i
+  passed i (suc slot) = afterOffers i (suc slot) (passed i slot)
+
+  -- the chain that it holds in a slot after its deliveries, and the one that the slot's controller has issued
+  abbrev pub holds : (i slot : ℕ) → List ℕ
+  holds i zero = []
+  holds i (suc slot) = heldBytes (afterDeliveries i (suc slot) (passed i slot))
+
+  abbrev pub issued : ℕ → List ℕ
+  issued zero = []
+  issued (suc slot) = heldBytes (afterIssuing (turn (r .table) (suc slot)) (suc slot) (passed (turn (r .table) (suc slot)) slot))
+
+-- ---- what is asked of a run
+abbrev pub Among : {A : Type 0} → A → List A → Type 0
+Among {A} a l = (before after : List A) × (l ≡ before ++ a ∷ after)
+
+-- where a correct controller meets a chain in a slot
+pub data Meets (r : Run) (i slot : ℕ) (chain : List ℕ) : Type 0 where
+  in-delivery : (verdicts : List ℕ) → Among (delivery chain verdicts) (r .events i slot) → Meets r i slot chain
+  as-held : chain ≡ holds r i slot → Meets r i slot chain
+  as-issued : turn (r .table) slot ≡ i → chain ≡ issued r slot → Meets r i slot chain
+
+abbrev pub InRun : Run → ℕ → Type 0
+InRun r slot = (1 ≤ slot) × (slot ≤ r .end)
+
+-- "blocks of the run": those that occur in what correct controllers are delivered, hold or issue
+pub record OfRun (r : Run) (p : Parts) : Type 0 where
+  pub controller : ℕ
+  pub is-correct : correct r controller
+  pub slot : ℕ
+  pub in-run : InRun r slot
+  pub chain : List ℕ
+  pub meets : Meets r controller slot chain
+  pub blocks : List Parts
+  pub rest : List ℕ
+  pub are : chain ≡ chainBytes blocks ++ rest
+  pub fit : Each Fits blocks
+  pub among : Among p blocks
+
+-- what is handed to a correct controller's calls is of their types
+pub record Typed (r : Run) (i : ℕ) : Type 0 where
+  pub buffer : Bytes (r .lent i)
+  pub deliveries : (slot : ℕ) (bytes verdicts : List ℕ) → Among (delivery bytes verdicts) (r .events i slot) → Bytes bytes
+  pub events : (slot : ℕ) (order : Order) → Among (offer order) (r .events i slot) → (order .expected ≤ largest) × (order .new ≤ largest)
+  pub offers : (slot : ℕ) (order : Order) → Among order (r .offers i slot) → (order .expected ≤ largest) × (order .new ≤ largest)
+  pub signatures : (slot : ℕ) → (length (r .signature i slot) ≡ 64) × Bytes (r .signature i slot)
+  pub seals : (slot : ℕ) → (length (r .seal i slot) ≡ 64) × Bytes (r .seal i slot)
+
+pub record Premises (r : Run) : Type 0 where
+  -- "Correct ones share one genesis with this n and t"
+  pub genesis : Bytes (r .genesis)
+  pub reads : genesisOf (r .genesis) ≡ gives (r .table)
+  -- "n controllers, at most t faulty"
+  pub few : howMany (r .faulty) 0 (r .table .n) ≤ r .table .t
+  pub ends : r .end ≤ 256
+  -- "lend full-sized buffers"
+  pub full : (i : ℕ) → correct r i → longest ≤ length (r .lent i)
+  pub typed : (i : ℕ) → correct r i → Typed r i
+  -- "The whole chain that a correct one issues reaches every correct one in the next slot."
+  pub reaches : (slot i : ℕ) → 1 ≤ slot → slot < r .end → correct r (turn (r .table) slot) → correct r i
+      → (verdicts : List ℕ) × Among (delivery (issued r slot) verdicts) (r .events i (suc slot))
+  -- "Signature verdicts are true and none is missing": a block's verdict is 3 exactly if its signatures verify
+  pub verdicts : (i slot : ℕ) → correct r i → InRun r slot → (bytes verdicts : List ℕ) → Among (delivery bytes verdicts) (r .events i slot)
+      → (before : List Parts) (p : Parts) (rest : List ℕ) → bytes ≡ chainBytes (before ++ (p ∷ [])) ++ rest → Each Fits (before ++ (p ∷ []))
+      → (getD verdicts (length before) 0 ≡ 3 → r .verifies p ≡ true) × (r .verifies p ≡ true → getD verdicts (length before) 0 ≡ 3)
+  -- "for a correct controller's turn the one block it issues verifies and no other"
+  pub issued-verifies : (slot : ℕ) → InRun r slot → correct r (turn (r .table) slot) → (before : List Parts) (p : Parts)
+      → issued r slot ≡ chainBytes (before ++ (p ∷ [])) → Each Fits (before ++ (p ∷ [])) → r .verifies p ≡ true
+  pub no-other : (slot : ℕ) → InRun r slot → correct r (turn (r .table) slot) → (p : Parts) → OfRun r p → p .slot ≡ slot → r .verifies p ≡ true
+      → (before : List Parts) × (issued r slot ≡ chainBytes (before ++ (p ∷ [])))
+  -- "no digest is shared by two different blocks of the run or by one and the genesis"
+  pub digests : (p q : Parts) → OfRun r p → OfRun r q → linkOf (blockBytes p) ≡ linkOf (blockBytes q) → p ≡ q
+  pub not-the-genesis : (p : Parts) → OfRun r p → linkOf (blockBytes p) ≡ linkOf (r .genesis) → ⊥
