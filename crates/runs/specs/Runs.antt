@@ -153,6 +153,10 @@ pub record Typed (r : Run) (i : ℕ) : Type 0 where
   pub signatures : (slot : ℕ) → (length (r .signature i slot) ≡ 64) × Bytes (r .signature i slot)
   pub seals : (slot : ℕ) → (length (r .seal i slot) ≡ 64) × Bytes (r .seal i slot)
 
+-- the block is the last one of a chain
+abbrev pub LastOf : List ℕ → Parts → Type 0
+LastOf chain p = (before : List Parts) × Each Fits (before ++ (p ∷ [])) × (chain ≡ chainBytes (before ++ (p ∷ [])))
+
 pub record Premises (r : Run) : Type 0 where
   -- "Correct ones share one genesis with this n and t"
   pub genesis : Bytes (r .genesis)
@@ -171,10 +175,9 @@ pub record Premises (r : Run) : Type 0 where
       → (before : List Parts) (p : Parts) (rest : List ℕ) → bytes ≡ chainBytes (before ++ (p ∷ [])) ++ rest → Each Fits (before ++ (p ∷ []))
       → (getD verdicts (length before) 0 ≡ 3 → r .verifies p ≡ true) × (r .verifies p ≡ true → getD verdicts (length before) 0 ≡ 3)
   -- "for a correct controller's turn the one block it issues verifies and no other"
-  pub issued-verifies : (slot : ℕ) → InRun r slot → correct r (turn (r .table) slot) → (before : List Parts) (p : Parts)
-      → issued r slot ≡ chainBytes (before ++ (p ∷ [])) → Each Fits (before ++ (p ∷ [])) → r .verifies p ≡ true
+  pub issued-verifies : (slot : ℕ) → InRun r slot → correct r (turn (r .table) slot) → (p : Parts) → LastOf (issued r slot) p → r .verifies p ≡ true
   pub no-other : (slot : ℕ) → InRun r slot → correct r (turn (r .table) slot) → (p : Parts) → OfRun r p → p .slot ≡ slot → r .verifies p ≡ true
-      → (before : List Parts) × (issued r slot ≡ chainBytes (before ++ (p ∷ [])))
+      → LastOf (issued r slot) p
   -- "no digest is shared by two different blocks of the run or by one and the genesis"
   pub digests : (p q : Parts) → OfRun r p → OfRun r q → linkOf (blockBytes p) ≡ linkOf (blockBytes q) → p ≡ q
   pub not-the-genesis : (p : Parts) → OfRun r p → linkOf (blockBytes p) ≡ linkOf (r .genesis) → ⊥
