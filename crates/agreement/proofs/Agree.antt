@@ -8,7 +8,8 @@ use lib.ListN.{length, length-append}
 use Rattle.laws.proofs.Cases.{lt-cases}
 use Rattle.agreement.specs.Core.{Setting, goodBetween, bad, badBetween, Windows, Begins, settled, Viable, Laws}
 use Rattle.agreement.proofs.Counts.{between, all}
-use Rattle.agreement.proofs.Chains.{each-weaker, settled-front, settled-part, settled-earlier}
+use Rattle.laws.proofs.Each.{each-weaker}
+use Rattle.agreement.proofs.Chains.{settled-front, settled-part, settled-earlier}
 use Rattle.agreement.proofs.Growth.{Start, grown, every-step}
 use Rattle.agreement.proofs.Common.{Common, common}
 

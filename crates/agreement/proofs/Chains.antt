@@ -1,4 +1,4 @@
--- Lists of blocks: what holds of each block, the last block, and the settled blocks at the front.
+-- Lists of blocks: those before the last one, and the settled ones at the front.
 -- Assumes nothing.
 use Prim.Native.Nat.{ℕ, _+_, _≤_, _<_}
 use mathlib.Core.Path.{_≡_, refl, ap}
@@ -10,33 +10,8 @@ use borrow.Author.Tests.{lt-ltb, le-ltb}
 use Rattle.laws.specs.Pick.{pick}
 use Rattle.laws.specs.Format.{Each}
 use Rattle.laws.proofs.Cases.{lt-cases}
+use Rattle.laws.proofs.Each.{each-weaker}
 use Rattle.agreement.specs.Core.{Setting, Begins, Rises, settled, Parted}
-
-module _ {A : Type 0} where
-  pub each-weaker : {P Q : A → Type 0} → ((a : A) → P a → Q a) → (l : List A) → Each P l → Each Q l
-  each-weaker weaker [] each = tt
-  each-weaker weaker (a ∷ l) (fine, each) = (weaker a fine, each-weaker weaker l each)
-
-  pub each-join : (P : A → Type 0) (l m : List A) → Each P l → Each P m → Each P (l ++ m)
-  each-join P [] m left right = right
-  each-join P (a ∷ l) m (fine, left) right = (fine, each-join P l m left right)
-
-  pub each-right : (P : A → Type 0) (l m : List A) → Each P (l ++ m) → Each P m
-  each-right P [] m each = each
-  each-right P (a ∷ l) m (fine, each) = each-right P l m each
-
-  -- a list is empty or has a last element
-  pub data Ends : List A → Type 0 where
-    nothing : Ends []
-    last : (l : List A) (a : A) → Ends (l ++ (a ∷ []))
-
-  pub ends : (l : List A) → Ends l
-  ends [] = nothing
-  ends (a ∷ l) = more a l (ends l)
-    where
-      more : (a : A) (l : List A) → Ends l → Ends (a ∷ l)
-      more a l nothing = last [] a
-      more a l (last m b) = last (a ∷ m) b
 
 module _ (s : Setting) where
   -- in front of the last block all stamps are below its own

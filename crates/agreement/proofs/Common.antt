@@ -10,7 +10,8 @@ use Rattle.laws.specs.Format.{Each}
 use Rattle.laws.proofs.Cases.{lt-cases}
 use Rattle.agreement.specs.Core.{Setting, bad, badBetween, Below, Laws}
 use Rattle.agreement.proofs.Counts.{one-passes, one-fails}
-use Rattle.agreement.proofs.Chains.{each-weaker, each-join, each-right, Ends, nothing, last, ends, rises-to}
+use Rattle.laws.proofs.Each.{each-weaker, each-append, each-parts, Ends, nothing, last, ends}
+use Rattle.agreement.proofs.Chains.{rises-to}
 use Rattle.agreement.proofs.Growth.{Start}
 
 module _ (s : Setting) where
@@ -47,14 +48,14 @@ module _ (s : Setting) where
             record { lower = []; upper = []; is = refl; passes = laws .none; below = tt; stamped = tt; one = omega arith }
         by-end c (last u b) passes below =
             let (low, under) = rises-to s 0 u b (laws .rises (u ++ (b ∷ [])) passes) in
-            let (high, t) = each-right (λ a. s .stamp a < suc (suc n)) u (b ∷ []) below in
+            let (high, t) = each-parts (λ a. s .stamp a < suc (suc n)) u (b ∷ []) below .1 in
             lt-cases (s .stamp b) (suc n)
             (λ less. record {
               lower = u ++ (b ∷ []);
               upper = [];
               is = sym (append-nil (u ++ (b ∷ [])));
               passes = passes;
-              below = each-join (λ a. s .stamp a < suc n) u (b ∷ []) (each-weaker (λ a h. omega arith) u under) (less, tt);
+              below = each-append (λ a. s .stamp a < suc n) u (b ∷ []) (each-weaker (λ a h. omega arith) u under) (less, tt);
               stamped = tt;
               one = omega arith;
             })
@@ -110,8 +111,8 @@ module _ (s : Setting) where
           start = k .start;
           c-is = x .is ∙ ap (λ l. l ++ x .upper) (k .c-is) ∙ append-assoc (k .shared) (k .left) (x .upper);
           e-is = y .is ∙ ap (λ l. l ++ y .upper) (k .e-is) ∙ append-assoc (k .shared) (k .right) (y .upper);
-          c-after = each-join after (k .left) (x .upper) (k .c-after) (each-weaker new (x .upper) (x .stamped));
-          e-after = each-join after (k .right) (y .upper) (k .e-after) (each-weaker new (y .upper) (y .stamped));
+          c-after = each-append after (k .left) (x .upper) (k .c-after) (each-weaker new (x .upper) (x .stamped));
+          e-after = each-append after (k .right) (y .upper) (k .e-after) (each-weaker new (y .upper) (y .stamped));
           few = omega (arith, k .few, length-append (k .left) (x .upper), length-append (k .right) (y .upper));
         }
 

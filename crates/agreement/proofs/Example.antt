@@ -9,7 +9,7 @@ use native.Mathlib.Omega.{arith}
 use lib.Dec.{eqb}
 use lib.ListN.{length, length-append}
 use Rattle.agreement.specs.Core.{Setting, howMany, Turns, Rises, settled, Below, Viable, Issue, Laws}
-use Rattle.agreement.proofs.Chains.{each-weaker, each-join}
+use Rattle.laws.proofs.Each.{each-weaker, each-append}
 
 -- the fork in slot 1, and one block for each slot i + 2
 pub data Block : Type 0 where
@@ -101,7 +101,7 @@ chain-links (suc i) = links-more [] (chain i) (next i) (chain-links i) refl
 chain-below : (i : ℕ) → Below run (suc (suc i)) (chain i)
 chain-below zero = (omega arith, tt)
 chain-below (suc i) =
-    each-join (λ b. stamp b < suc (suc (suc i))) (chain i) (next i ∷ []) (each-weaker (λ b h. omega arith) (chain i) (chain-below i)) (omega arith, tt)
+    each-append (λ b. stamp b < suc (suc (suc i))) (chain i) (next i ∷ []) (each-weaker (λ b h. omega arith) (chain i) (chain-below i)) (omega arith, tt)
 
 chain-length : (i : ℕ) → length (chain i) ≡ suc i
 chain-length zero = refl

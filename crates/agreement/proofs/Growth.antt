@@ -11,7 +11,7 @@ use Rattle.laws.specs.Format.{Each}
 use Rattle.laws.proofs.Cases.{lt-cases}
 use Rattle.agreement.specs.Core.{Setting, goodBetween, Long, Viable, Issue, Laws}
 use Rattle.agreement.proofs.Counts.{no-slot, one-passes, one-fails}
-use Rattle.agreement.proofs.Chains.{each-weaker, each-join}
+use Rattle.laws.proofs.Each.{each-weaker, each-append}
 
 module _ (s : Setting) where
   -- where counting starts: slot 0 and no block, or a good slot and the chain issued in it
@@ -82,7 +82,7 @@ module _ (s : Setting) where
     issued-viable i it = record {
       passes = subst (s .valid) (it .is) (it .passes);
       below =
-          each-join (λ b. s .stamp b < suc i) (it .before) (it .block ∷ []) (each-weaker (λ b h. omega arith) (it .before) (it .held .below))
+          each-append (λ b. s .stamp b < suc i) (it .before) (it .block ∷ []) (each-weaker (λ b h. omega arith) (it .before) (it .held .below))
           (omega (arith, it .stamped), tt);
       long = λ k good low high.
           lt-cases k i (λ before. omega (arith, it .held .long k good low before, length-append (it .before) (it .block ∷ [])))

@@ -11,6 +11,7 @@ use Rattle.laws.specs.Pick.{pick}
 use Rattle.laws.specs.Told.{Told, gives, then}
 use Rattle.laws.specs.Format.{Bytes, Each}
 use Rattle.laws.proofs.Told.{gives-same, then-gives}
+use Rattle.laws.proofs.Each.{each-append, each-parts}
 use Rattle.laws.proofs.Taken.{joined-append}
 use Rattle.laws.proofs.Formats.{several}
 use Rattle.block.specs.Block.{Parts, blockBytes, Fits}
@@ -25,15 +26,7 @@ use Rattle.chain.proofs.Following.{added, front-follows, Adds, adds, ri
 use Rattle.chain.proofs.Settling.{onward, summed, first-summed, summed-append, summed-follows, follows-summed, settled-follows, settled-exactly}
 use Rattle.chain.proofs.Accepting.{pass-blocks, blocks-of}
 
--- ---- the parts of a list
-pub each-front : {A : Type 0} (valid : A → Type 0) (xs ys : List A) → Each valid (xs ++ ys) → Each valid xs × Each valid ys
-each-front valid [] ys all = (tt, all)
-each-front valid (x ∷ xs) ys (one, all) = let (front, rest) = each-front valid xs ys all in ((one, front), rest)
-
-pub each-append : {A : Type 0} (valid : A → Type 0) (xs ys : List A) → Each valid xs → Each valid ys → Each valid (xs ++ ys)
-each-append valid [] ys all more = more
-each-append valid (x ∷ xs) ys (one, all) more = (one, each-append valid xs ys all more)
-
+-- ---- the parts of a chain
 module _ (way : Way) (clock : ℕ) where
   pub admits-front : (count : ℕ) (xs ys : List Parts) → Admits way clock count (xs ++ ys)
       → Admits way clock count xs × Admits way clock (count + length xs) ys
@@ -85,7 +78,7 @@ module _ (o : Opened) (way : Way) where
   pub accepted-front : (xs ys : List Parts) (s : Summary) → Accepted o way (xs ++ ys) s → (front : Summary) × Accepted o way xs front
   accepted-front xs ys s a =
       let (middle, follow, _) = front-follows (none o) xs ys (s .whole) (a .whole) in
-      let (front, _, good) = followed-accepted xs middle (each-front Fits xs ys (a .fits) .0) follow (admits-front way (o .clock .0) 0 xs ys (a .admits) .0) in
+      let (front, _, good) = followed-accepted xs middle (each-parts Fits xs ys (a .fits) .0) follow (admits-front way (o .clock .0) 0 xs ys (a .admits) .0) in
       (front, good)
 
   accepted-adds : (blocks : List Parts) (s : Summary) → Accepted o way blocks s → Adds (none o) blocks (s .whole)
@@ -110,7 +103,7 @@ module _ (o : Opened) (way : Way) where
   pub last-one : (blocks : List Parts) (p : Parts) (e : Summary) → Accepted o way (blocks ++ (p ∷ [])) e
       → (s : Summary) × Accepted o way blocks s × Behind o way s p e
   last-one blocks p e a =
-      let (fits, (fit, _)) = each-front Fits blocks (p ∷ []) (a .fits) in
+      let (fits, (fit, _)) = each-parts Fits blocks (p ∷ []) (a .fits) in
       let (admits, (admit, _)) = admits-front way (o .clock .0) 0 blocks (p ∷ []) (a .admits) in
       let (s, sums, more) = then-gives (summed o (begun o) blocks) _ e
       (sym (summed-append o (begun o) blocks (p ∷ [])) ∙ accepted-sums (blocks ++ (p ∷ [])) e a) in

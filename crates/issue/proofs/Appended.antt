@@ -18,7 +18,7 @@ use Rattle.laws.specs.Bytes.{part}
 use Rattle.laws.specs.Format.{Bytes}
 use Rattle.laws.specs.Placed.{placed, placing}
 use Rattle.laws.proofs.Told.{gives-same, then-gives, unless-gives}
-use Rattle.laws.proofs.Placed.{was-room}
+use Rattle.laws.proofs.Placed.{was-room, is-next, placed-size, placed-front}
 use Rattle.laws.proofs.Taken.{joined-append}
 use Rattle.genesis.specs.Genesis.{genesisOf, clockFits}
 use Rattle.block.specs.Block.{Parts, blockBytes}
@@ -32,33 +32,6 @@ use Rattle.pool.specs.Pool.{counting, ordersOf, taking}
 use Rattle.pool.specs.declared.Pool.{Pool}
 use Rattle.issue.specs.Issue.{nextFront, appendBytes}
 use Rattle.issue.proofs.Appending.{Digest, Given, followed-digest, nextParts, append-writes, next-follows, next-parts-fit}
-
--- ---- bytes that were placed
-module _ (out : List ℕ) (at : ℕ) (bytes : List ℕ) (next : ℕ) (e : placed out at bytes ≡ gives next) where
-  pub is-next : next ≡ at + length bytes
-  is-next = was-room out at bytes next e .1
-
-  room : at + length bytes ≤ length out
-  room = was-room out at bytes next e .0
-
-  laid : placing out at bytes ≡ (take at out ++ bytes) ++ drop (at + length bytes) out
-  laid = rw (le-leb (at + length bytes) (length out) room) (sets-eq bytes out at room)
-
-  pub placed-size : length (placing out at bytes) ≡ length out
-  placed-size = rw (le-leb (at + length bytes) (length out) room) (length-sets out at bytes)
-
-  pub placed-part : part (placing out at bytes) at (next - at) ≡ bytes
-  placed-part =
-      let size : next - at ≡ length bytes = omega (arith, is-next) in
-      ap (λ (l : List ℕ). part l at (next - at)) (laid ∙ append-assoc (take at out) bytes _)
-      ∙ ap (take (next - at)) (drop-at (take at out) _ at (length-take-le at out (omega (arith, room))))
-      ∙ take-at bytes _ (next - at) (sym size)
-
-  pub placed-front : take next (placing out at bytes) ≡ take at out ++ bytes
-  placed-front =
-      let front : length (take at out) ≡ at = length-take-le at out (omega (arith, room)) in
-      let size : length (take at out ++ bytes) ≡ next = omega (arith, is-next, length-append (take at out) bytes) in
-      ap (take next) laid ∙ take-at (take at out ++ bytes) _ next size
 
 -- ---- what every call is opened with
 pub opened-link : (genesis : List ℕ) (clock : ℕ) (o : Opened) → opened genesis clock ≡ gives o

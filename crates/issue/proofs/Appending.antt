@@ -15,6 +15,7 @@ use Rattle.laws.specs.Every.{both, same, within, every}
 use Rattle.laws.specs.Format.{Bytes, Each}
 use Rattle.laws.specs.Tabulate.{tabulate}
 use Rattle.laws.proofs.Told.{gives-same, then-gives, unless-gives}
+use Rattle.laws.proofs.Each.{each-append, each-take, each-those}
 use Rattle.laws.proofs.Every.{same-refl, both-true, within-here}
 use Rattle.laws.proofs.Tabulate.{length-tabulate}
 use Rattle.number.specs.Number.{largest}
@@ -128,24 +129,6 @@ next-follows o held pool signature seal later =
     rw (lt-ltb (held .whole .stamp .0) (o .clock .0) later, same-refl (held .whole .link), taken-fine o held pool .obeys)
 
 -- ---- and its parts fit
-module _ {A : Type 0} (P : A → Type 0) where
-  each-take : (n : ℕ) (l : List A) → Each P l → Each P (take n l)
-  each-take zero l each = tt
-  each-take (suc n) [] each = tt
-  each-take (suc n) (a ∷ l) (here, rest) = (here, each-take n l rest)
-
-  each-those : (test : A → Bool) (l : List A) → Each P l → Each P (those test l)
-  each-those test [] each = tt
-  each-those test (a ∷ l) (here, rest) = by-test (test a) (each-those test l rest)
-    where
-      by-test : (β : Bool) → Each P (those test l) → Each P (pick β (a ∷ those test l) (those test l))
-      by-test true more = (here, more)
-      by-test false more = more
-
-  each-append : (l : List A) (a : A) → Each P l → P a → Each P (l ++ (a ∷ []))
-  each-append [] a each here = (here, tt)
-  each-append (b ∷ l) a (first, rest) here = (first, each-append l a rest here)
-
 each-orders : (l : List Entry) → Each (λ (e : Entry). Writable (e .order)) l → Each Writable (ordersOf l)
 each-orders [] each = tt
 each-orders (e ∷ l) (here, rest) = (here, each-orders l rest)
@@ -156,7 +139,7 @@ each-taken limit [] t each so-far = so-far
 each-taken limit (o ∷ rest) t (here, more) so-far = each-taken limit rest (takeOne limit t o) more (by-test (both (ltb (length (t .orders)) limit) (valid (t .releases) o)))
   where
     by-test : (β : Bool) → Each Writable (pick β (record { orders = t .orders ++ (o ∷ []); releases = applied (t .releases) o }) t .orders)
-    by-test true = each-append Writable (t .orders) o so-far here
+    by-test true = each-append Writable (t .orders) (o ∷ []) so-far (here, tt)
     by-test false = so-far
 
 fit-orders : (l : List Order) → every knownDisplay l ≡ true → Each Writable l → Each OrderFits l

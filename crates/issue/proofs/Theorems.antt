@@ -16,6 +16,7 @@ use Rattle.laws.specs.Bytes.{part}
 use Rattle.laws.specs.Format.{Bytes}
 use Rattle.laws.specs.Placed.{placed, placing}
 use Rattle.laws.proofs.Told.{gives-same, then-gives, unless-gives}
+use Rattle.laws.proofs.Placed.{placed-part}
 use Rattle.block.specs.declared.Front.{Front}
 use Rattle.chain.specs.Chain.{linkOf, opened, held, deliveredChain, heldChain, checked}
 use Rattle.chain.specs.Blocks.{chainBytes, atSlot}
@@ -33,7 +34,7 @@ use Rattle.issue.proofs.Appended as appended
 piece : (bytes : Front → List ℕ) (t : Told Front) (out : List ℕ) (at next : ℕ) (f : Front) → t ≡ gives f → placed out at (bytes f) ≡ gives next
     → part (written bytes t out at) at (next - at) ≡ bytes f
 piece bytes t out at next f e fits =
-    ap (λ (q : Told Front). part (written bytes q out at) at (next - at)) e ∙ appended.placed-part out at (bytes f) next fits
+    ap (λ (q : Told Front). part (written bytes q out at) at (next - at)) e ∙ placed-part out at (bytes f) next fits
 
 front-piece : (bytes : Front → List ℕ) (t : Told Front) (out : List ℕ) (next : ℕ) (f : Front) → t ≡ gives f → placed out 0 (bytes f) ≡ gives next
     → take next (written bytes t out 0) ≡ bytes f

@@ -12,3 +12,4 @@ pub mod Formats
 pub mod Taken
 pub mod Run
 pub mod Fold
+pub mod Each

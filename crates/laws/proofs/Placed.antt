@@ -2,17 +2,19 @@
 -- Assumes nothing.
 use mathlib.Core.Path.{_≡_, refl, sym, ap, _∙_, subst}
 use mathlib.Core.Bool.{Bool, true, false}
-use mathlib.Core.List.{List, [], _++_, append-nil}
+use mathlib.Core.List.{List, [], _++_, append-assoc, append-nil}
 use Prim.Native.Nat.{ℕ, _+_, _-_, _<_, _≤_}
 use native.Mathlib.Nat.{add-sub-cancel-left}
 use lib.Dec.{leb}
 use native.Mathlib.Omega.{arith}
 use lib.ListN.{length, take, drop, replicate, drop-of-length-le, length-drop, length-append, length-replicate}
-use lib.Seq.{sets, sets-eq, length-sets, length-take-le}
+use lib.Seq.{sets, sets-eq, length-sets, length-take-le, take-at, drop-at}
 use borrow.Author.Tests.{le-leb, lt-leb, leb-true, leb-false}
 use Rattle.laws.specs.Told.{gives, refuses}
 use Rattle.laws.specs.Placed.{placed, placing, placedIf, placingIf, Room, Wrote}
 use Rattle.laws.specs.Bytes.{part}
+use Rattle.laws.specs.Format.{Bytes}
+use Rattle.laws.proofs.Bytes.{bytes-append, bytes-take, bytes-drop}
 use Rattle.laws.proofs.Sets.{sets-join}
 use Rattle.laws.proofs.Told.{gives-same, unless-gives}
 
@@ -29,6 +31,38 @@ module _ (out : List ℕ) (at : ℕ) (bytes : List ℕ) where
   was-room next e =
       let (fits, same) = unless-gives (leb (at + length bytes) (length out)) 15 0 (gives (at + length bytes)) next e in
       (leb-true _ _ fits, sym (gives-same same))
+
+-- bytes that were placed: where they stand, and what stands around them
+module _ (out : List ℕ) (at : ℕ) (bytes : List ℕ) (next : ℕ) (e : placed out at bytes ≡ gives next) where
+  pub is-next : next ≡ at + length bytes
+  is-next = was-room out at bytes next e .1
+
+  room : at + length bytes ≤ length out
+  room = was-room out at bytes next e .0
+
+  laid : placing out at bytes ≡ (take at out ++ bytes) ++ drop (at + length bytes) out
+  laid = rw (le-leb (at + length bytes) (length out) room) (sets-eq bytes out at room)
+
+  pub placed-size : length (placing out at bytes) ≡ length out
+  placed-size = rw (le-leb (at + length bytes) (length out) room) (length-sets out at bytes)
+
+  pub placed-part : part (placing out at bytes) at (next - at) ≡ bytes
+  placed-part =
+      let size : next - at ≡ length bytes = omega (arith, is-next) in
+      ap (λ (l : List ℕ). part l at (next - at)) (laid ∙ append-assoc (take at out) bytes _)
+      ∙ ap (take (next - at)) (drop-at (take at out) _ at (length-take-le at out (omega (arith, room))))
+      ∙ take-at bytes _ (next - at) (sym size)
+
+  pub placed-front : take next (placing out at bytes) ≡ take at out ++ bytes
+  placed-front =
+      let front : length (take at out) ≡ at = length-take-le at out (omega (arith, room)) in
+      let size : length (take at out ++ bytes) ≡ next = omega (arith, is-next, length-append (take at out) bytes) in
+      ap (take next) laid ∙ take-at (take at out ++ bytes) _ next size
+
+  pub placed-bytes : Bytes out → Bytes bytes → Bytes (placing out at bytes)
+  placed-bytes before new =
+      subst Bytes (sym laid)
+      (bytes-append (take at out ++ bytes) _ (bytes-append (take at out) bytes (bytes-take at out before) new) (bytes-drop (at + length bytes) out before))
 
 -- bytes that fill a buffer are then what it holds
 pub filling : (out bytes : List ℕ) → length bytes ≡ length out → placing out 0 bytes ≡ bytes
