@@ -1,0 +1,5 @@
+pub mod Nodes
+pub mod Pools
+pub mod Issuing
+pub mod Valid
+pub mod Linked

@@ -23,6 +23,7 @@ use Rattle.pool.specs.Pool.{poolOf, offered}
 use Rattle.pool.specs.Answers.{poolOr}
 use Rattle.pool.specs.declared.Pool.{Pool}
 use Rattle.issue.specs.Issue.{front, writing, written, appendBytes}
+use Rattle.report.specs.Report.{Report, reported}
 use Rattle.agreement.specs.Core.{howMany}
 
 -- ---- one controller
@@ -92,30 +93,35 @@ module _ (r : Run) where
   abbrev pub start : ℕ → Node
   start i = record { buffer = r .lent i; size = 0; pool = poolOf [] }
 
-  -- a controller in a slot: "deliveries first", with offers between them as they come; "then issuing when it is their turn"; then more offers
+  -- a slot: "deliveries first", with offers between them as they come; "then issuing when it is their turn"; then more offers
   abbrev pub afterDeliveries : (i slot : ℕ) → Node → Node
   afterDeliveries i slot s = folded (meets (r .genesis) slot) s (r .events i slot)
 
   abbrev pub afterIssuing : (i slot : ℕ) → Node → Node
-  afterIssuing i slot s =
-      pick (eqb (turn (r .table) slot) i) (issues (r .genesis) slot i (r .signature i slot) (r .seal i slot) (afterDeliveries i slot s)) (afterDeliveries i slot s)
+  afterIssuing i slot s = pick (eqb (turn (r .table) slot) i) (issues (r .genesis) slot i (r .signature i slot) (r .seal i slot) s) s
 
   abbrev pub afterOffers : (i slot : ℕ) → Node → Node
-  afterOffers i slot s = folded (λ node order. meets (r .genesis) slot node (offer order)) (afterIssuing i slot s) (r .offers i slot)
+  afterOffers i slot s = folded (λ node order. meets (r .genesis) slot node (offer order)) s (r .offers i slot)
 
   -- what it keeps when a slot has passed
   unfoldable pub passed : (i slot : ℕ) → Node
   passed i zero = start i
-  passed i (suc slot) = afterOffers i (suc slot) (passed i slot)
+  passed i (suc slot) = afterOffers i (suc slot) (afterIssuing i (suc slot) (afterDeliveries i (suc slot) (passed i slot)))
 
-  -- the chain that it holds in a slot after its deliveries, and the one that the slot's controller has issued
+  -- a controller in a slot after its deliveries, the chain that it holds then and what it reports
+  abbrev pub inSlot : (i slot : ℕ) → Node
+  inSlot i zero = start i
+  inSlot i (suc slot) = afterDeliveries i (suc slot) (passed i slot)
+
   abbrev pub holds : (i slot : ℕ) → List ℕ
-  holds i zero = []
-  holds i (suc slot) = heldBytes (afterDeliveries i (suc slot) (passed i slot))
+  holds i slot = heldBytes (inSlot i slot)
 
+  abbrev pub reports : (i slot : ℕ) → Told Report
+  reports i slot = reported (r .genesis) slot (inSlot i slot .buffer) (inSlot i slot .size)
+
+  -- the chain that the slot's controller has issued
   abbrev pub issued : ℕ → List ℕ
-  issued zero = []
-  issued (suc slot) = heldBytes (afterIssuing (turn (r .table) (suc slot)) (suc slot) (passed (turn (r .table) (suc slot)) slot))
+  issued slot = heldBytes (afterIssuing (turn (r .table) slot) slot (inSlot (turn (r .table) slot) slot))
 
 -- ---- what is asked of a run
 abbrev pub Among : {A : Type 0} → A → List A → Type 0
