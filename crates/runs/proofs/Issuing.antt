@@ -39,19 +39,31 @@ use Rattle.runs.proofs.Pools.{Pooled}
 abbrev pub Signature : List ℕ → Type 0
 Signature bytes = (length bytes ≡ 64) × Bytes bytes
 
-module _ (genesis : List ℕ) (table : Genesis) (reads : genesisOf genesis ≡ gives table) (clock : ℕ) (low : 1 ≤ clock) (high : clock ≤ 256)
-    (s : Node) (blocks : List Parts) (k : Keeps genesis table clock (s .buffer) (s .size) blocks) (pooled : Pooled clock (s .pool))
-    (controller : ℕ) (known : within 1 (table .n) controller ≡ true) (is-turn : turn table clock ≡ controller)
-    (signature seal : List ℕ) (signed : Signature signature) (sealed : Signature seal) where
+-- a controller in its turn
+pub record Issuer (genesis : List ℕ) (table : Genesis) (clock : ℕ) (s : Node) (blocks : List Parts) : Type 0 where
+  pub reads : genesisOf genesis ≡ gives table
+  pub low : 1 ≤ clock
+  pub high : clock ≤ 256
+  pub keeps : Keeps genesis table clock (s .buffer) (s .size) blocks
+  pub pooled : Pooled clock (s .pool)
+  pub controller : ℕ
+  pub known : within 1 (table .n) controller ≡ true
+  pub is-turn : turn table clock ≡ controller
+  pub signature : List ℕ
+  pub signed : Signature signature
+  pub seal : List ℕ
+  pub sealed : Signature seal
+
+module _ (genesis : List ℕ) (table : Genesis) (clock : ℕ) (s : Node) (blocks : List Parts) (x : Issuer genesis table clock s blocks) where
   abbrev pub o : Opened
   o = opening genesis table clock
 
-  pub held-now : Held genesis table reads clock low high s blocks
-  held-now = held-there genesis table reads clock low high s blocks (keeps-later genesis table clock (clock + 1) (s .buffer) (s .size) blocks (omega arith) k)
+  pub held-now : Held genesis table (x .reads) clock (x .low) (x .high) s blocks
+  held-now = held-there genesis table (x .reads) clock (x .low) (x .high) s blocks (keeps-later genesis table clock (clock + 1) (s .buffer) (s .size) blocks (omega arith) (x .keeps))
 
   -- the block that is issued
   abbrev pub block : Parts
-  block = nextParts o (held-now .summary) (s .pool) signature seal
+  block = nextParts o (held-now .summary) (s .pool) (x .signature) (x .seal)
 
   abbrev pub after : Standing
   after = record {
@@ -66,37 +78,37 @@ module _ (genesis : List ℕ) (table : Genesis) (reads : genesisOf genesis ≡ g
   then-held = record { whole = after; settled = pick (settles o clock) after (held-now .summary .settled) }
 
   later : held-now .summary .whole .stamp .0 < clock
-  later = last-is-below o held blocks (held-now .summary) (held-now .accepted) clock (omega arith) (k .below)
+  later = last-is-below o held blocks (held-now .summary) (held-now .accepted) clock (omega (arith, x .low)) (x .keeps .below)
 
-  front-is : front genesis clock (s .buffer) (s .size) (s .pool) controller signature ≡ gives (nextFront o (held-now .summary) (s .pool) signature)
+  front-is : front genesis clock (s .buffer) (s .size) (s .pool) (x .controller) (x .signature) ≡ gives (nextFront o (held-now .summary) (s .pool) (x .signature))
   unfolding front
   front-is =
       rw (
-        opens genesis table reads clock low high,
+        opens genesis table (x .reads) clock (x .low) (x .high),
         held-now .is,
-        pooled .fits,
-        known,
-        eq-eqb (turn table clock) controller is-turn,
+        x .pooled .fits,
+        x .known,
+        eq-eqb (turn table clock) (x .controller) (x .is-turn),
         lt-ltb (held-now .summary .whole .stamp .0) clock later,
       )
 
   fit : Fits block
   fit =
-      next-parts-fit o (held-now .summary) (s .pool) signature seal
+      next-parts-fit o (held-now .summary) (s .pool) (x .signature) (x .seal)
       (followed-digest blocks _ (held-now .summary .whole) (link-digest genesis) (held-now .accepted .whole))
       (record {
-        signature-size = signed .0;
-        signature-bytes = signed .1;
-        seal-size = sealed .0;
-        seal-bytes = sealed .1;
-        releases = pooled .releases;
+        signature-size = x .signed .0;
+        signature-bytes = x .signed .1;
+        seal-size = x .sealed .0;
+        seal-bytes = x .sealed .1;
+        releases = x .pooled .releases;
       })
-      (within-here 1 256 clock low high)
+      (within-here 1 256 clock (x .low) (x .high))
 
   behind : Behind o held (held-now .summary) block then-held
   behind = record {
     fits = fit;
-    whole = next-follows o (held-now .summary) (s .pool) signature seal later;
+    whole = next-follows o (held-now .summary) (s .pool) (x .signature) (x .seal) later;
     settled = refl;
     admits = rw (le-leb clock clock (omega arith));
   }
@@ -109,11 +121,11 @@ module _ (genesis : List ℕ) (table : Genesis) (reads : genesisOf genesis ≡ g
 
   room : s .size + length (blockBytes block) ≤ length (s .buffer)
   room =
-      let size : s .size ≡ length (chainBytes blocks) = sym (length-take-le (s .size) (s .buffer) (k .inside)) ∙ ap length (k .are) in
+      let size : s .size ≡ length (chainBytes blocks) = sym (length-take-le (s .size) (s .buffer) (x .keeps .inside)) ∙ ap length (x .keeps .are) in
       omega (
         arith,
         size,
-        k .room,
+        x .keeps .room,
         at-most-64256-bytes o held (blocks ++ (block ∷ [])) then-held still-accepted,
         ap length bytes-are,
         length-append (chainBytes blocks) (blockBytes block),
@@ -122,39 +134,39 @@ module _ (genesis : List ℕ) (table : Genesis) (reads : genesisOf genesis ≡ g
   fits-there : placed (s .buffer) (s .size) (blockBytes block) ≡ gives (s .size + length (blockBytes block))
   fits-there = sym (with-room (s .buffer) (s .size) (blockBytes block) room .0)
 
-  bytes-written : appendBytes seal (nextFront o (held-now .summary) (s .pool) signature) ≡ blockBytes block
-  bytes-written = append-writes o (held-now .summary) (s .pool) signature seal
+  bytes-written : appendBytes (x .seal) (nextFront o (held-now .summary) (s .pool) (x .signature)) ≡ blockBytes block
+  bytes-written = append-writes o (held-now .summary) (s .pool) (x .signature) (x .seal)
 
-  pub never-refused : writing (appendBytes seal) (front genesis clock (s .buffer) (s .size) (s .pool) controller signature) (s .buffer) (s .size)
+  pub never-refused : writing (appendBytes (x .seal)) (front genesis clock (s .buffer) (s .size) (s .pool) (x .controller) (x .signature)) (s .buffer) (s .size)
       ≡ gives (s .size + length (blockBytes block))
   never-refused =
-      ap (λ (t : Told Front). writing (appendBytes seal) t (s .buffer) (s .size)) front-is
+      ap (λ (t : Told Front). writing (appendBytes (x .seal)) t (s .buffer) (s .size)) front-is
       ∙ ap (λ (l : List ℕ). placed (s .buffer) (s .size) l) bytes-written
       ∙ fits-there
 
   -- the buffer then
-  laid : written (appendBytes seal) (front genesis clock (s .buffer) (s .size) (s .pool) controller signature) (s .buffer) (s .size)
+  laid : written (appendBytes (x .seal)) (front genesis clock (s .buffer) (s .size) (s .pool) (x .controller) (x .signature)) (s .buffer) (s .size)
       ≡ placing (s .buffer) (s .size) (blockBytes block)
   laid =
-      ap (λ (t : Told Front). written (appendBytes seal) t (s .buffer) (s .size)) front-is
+      ap (λ (t : Told Front). written (appendBytes (x .seal)) t (s .buffer) (s .size)) front-is
       ∙ ap (λ (l : List ℕ). placing (s .buffer) (s .size) l) bytes-written
 
-  pub keeps-one-more : Keeps genesis table (clock + 1) (issues genesis clock controller signature seal s .buffer)
-      (issues genesis clock controller signature seal s .size) (blocks ++ (block ∷ []))
+  pub keeps-one-more : Keeps genesis table (clock + 1) (issues genesis clock (x .controller) (x .signature) (x .seal) s .buffer)
+      (issues genesis clock (x .controller) (x .signature) (x .seal) s .size) (blocks ++ (block ∷ []))
   keeps-one-more =
       let next = s .size + length (blockBytes block) in
       let long = placed-size (s .buffer) (s .size) (blockBytes block) next fits-there in
-      let size-is : next ≡ issues genesis clock controller signature seal s .size = ap (sizeOr (s .size) (λ (n : ℕ). n)) (sym never-refused) in
-      subst (λ (l : List ℕ). Keeps genesis table (clock + 1) l (issues genesis clock controller signature seal s .size) (blocks ++ (block ∷ []))) (sym laid)
+      let size-is : next ≡ issues genesis clock (x .controller) (x .signature) (x .seal) s .size = ap (sizeOr (s .size) (λ (n : ℕ). n)) (sym never-refused) in
+      subst (λ (l : List ℕ). Keeps genesis table (clock + 1) l (issues genesis clock (x .controller) (x .signature) (x .seal) s .size) (blocks ++ (block ∷ []))) (sym laid)
       (subst (λ (n : ℕ). Keeps genesis table (clock + 1) (placing (s .buffer) (s .size) (blockBytes block)) n (blocks ++ (block ∷ []))) size-is
       (record {
-        bytes = placed-bytes (s .buffer) (s .size) (blockBytes block) next fits-there (k .bytes)
+        bytes = placed-bytes (s .buffer) (s .size) (blockBytes block) next fits-there (x .keeps .bytes)
             (subst Bytes (append-nil (blockBytes block)) (what-is-written-of-blocks-is-bytes (block ∷ []) (fit, tt)));
-        room = omega (arith, k .room, long);
+        room = omega (arith, x .keeps .room, long);
         inside = omega (arith, room, long);
-        are = placed-front (s .buffer) (s .size) (blockBytes block) next fits-there ∙ ap (λ (l : List ℕ). l ++ blockBytes block) (k .are) ∙ sym bytes-are;
+        are = placed-front (s .buffer) (s .size) (blockBytes block) next fits-there ∙ ap (λ (l : List ℕ). l ++ blockBytes block) (x .keeps .are) ∙ sym bytes-are;
         fits = still-accepted .fits;
         whole = after;
         follows = still-accepted .whole;
-        below = each-append (λ p. p .slot < clock + 1) blocks (block ∷ []) (each-weaker (λ p low. omega arith) blocks (k .below)) (omega arith, tt);
+        below = each-append (λ p. p .slot < clock + 1) blocks (block ∷ []) (each-weaker (λ p under. omega arith) blocks (x .keeps .below)) (omega arith, tt);
       }))

@@ -3,3 +3,5 @@ pub mod Pools
 pub mod Issuing
 pub mod Valid
 pub mod Linked
+pub mod Events
+pub mod Slots
