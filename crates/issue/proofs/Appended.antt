@@ -3,18 +3,16 @@
 use Prim.Native.Nat.{ℕ, suc, _+_, _-_, _<_, _≤_}
 use mathlib.Core.Path.{_≡_, refl, sym, ap, _∙_, subst}
 use mathlib.Core.Bool.{true}
-use mathlib.Core.List.{List, [], _∷_, _++_, append-assoc, append-nil}
+use mathlib.Core.List.{List, [], _∷_, _++_, append-nil}
 use native.Mathlib.Omega.{arith}
 use native.Mathlib.Nat.{add-zero, zero-add}
 use lib.Dec.{leb}
-use lib.ListN.{length, take, drop, getD, length-append}
-use lib.Seq.{sets-eq, length-sets, take-at, drop-at, length-take-le}
+use lib.ListN.{length, take, getD}
 use borrow.Author.Tests.{le-leb, leb-true, lt-ltb, eq-eqb}
 use Rattle.laws.proofs.Every.{within-here}
 use Rattle.laws.specs.Pick.{pick}
 use Rattle.laws.specs.Told.{gives}
 use Rattle.laws.specs.Every.{within}
-use Rattle.laws.specs.Bytes.{part}
 use Rattle.laws.specs.Format.{Bytes}
 use Rattle.laws.specs.Placed.{placed, placing}
 use Rattle.laws.proofs.Told.{gives-same, then-gives, unless-gives}

@@ -6,7 +6,7 @@ use mathlib.Core.Bool.{Bool, true, false}
 use mathlib.Core.List.{List, [], _∷_, _++_}
 use native.Mathlib.Omega.{arith}
 use lib.Dec.{ltb, leb, lit<}
-use lib.ListN.{length, take, getD, replicate, length-replicate}
+use lib.ListN.{length, getD, replicate, length-replicate}
 use lib.Seq.{take-append-seam}
 use borrow.Author.Tests.{lt-ltb}
 use Rattle.laws.specs.Pick.{pick}
@@ -30,7 +30,7 @@ use Rattle.chain.specs.declared.Standing.{Standing}
 use Rattle.chain.specs.declared.Summary.{Summary}
 use Rattle.pool.specs.Pool.{entriesIn, counts, counting, ordersOf, Taking, takeOne, taking}
 use Rattle.pool.specs.declared.Entry.{Entry}
-use Rattle.laws.specs.Fold.{folded, those}
+use Rattle.laws.specs.Fold.{folded}
 use Rattle.order.specs.Order.{valid, applied}
 use Rattle.pool.specs.declared.Pool.{Pool}
 use Rattle.issue.specs.Issue.{taken, nextFront, appendBytes}

@@ -1,8 +1,8 @@
 -- A correct controller in one slot: what it meets leaves it with a valid chain of the run, and no shorter one.
 -- Assumes nothing.
-use Prim.Native.Nat.{ℕ, zero, suc, _+_, _<_, _≤_}
+use Prim.Native.Nat.{ℕ, _+_, _≤_}
 use mathlib.Core.Path.{_≡_, refl, sym, ap, _∙_, subst}
-use mathlib.Core.Bool.{Bool, true, false}
+use mathlib.Core.Bool.{true}
 use mathlib.Core.List.{List, [], _∷_, _++_, append-assoc, append-nil}
 use native.Mathlib.Omega.{arith}
 use native.Mathlib.Nat.{zero-add}
@@ -16,15 +16,15 @@ use Rattle.laws.proofs.Told.{unless-gives}
 use Rattle.laws.proofs.Each.{each-parts}
 use Rattle.laws.proofs.Fold.{folded-append}
 use Rattle.laws.proofs.Taken.{joined-append}
-use Rattle.order.specs.declared.Order.{Order}
 use Rattle.block.specs.Block.{Parts, blockBytes, Fits}
 use Rattle.chain.specs.Chain.{delivered, admitted}
 use Rattle.chain.specs.Blocks.{chainBytes, Admits, Accepted, Below}
 use Rattle.chain.specs.declared.Summary.{Summary}
 use Rattle.chain.proofs.Accepted.{admits-front}
 use Rattle.chain.proofs.Theorems.{blocks-that-follow-and-are-admitted-are-accepted, the-bytes-tell-the-blocks}
+use Rattle.adopt.specs.Adopt.{accepted}
 use Rattle.runs.specs.Runs.{Node, Event, delivery, offer, meets, Run, correct, Among, in-delivery, InRun, OfRun, Premises}
-use Rattle.runs.proofs.Nodes.{opening, Keeps, From, stayed, replaced, Met, met-delivery}
+use Rattle.runs.proofs.Nodes.{opening, Keeps, From, stayed, replaced, Met, met-delivery, good-answer}
 use Rattle.runs.proofs.Pools.{Pooled, pooled-offer}
 use Rattle.runs.proofs.Valid.{Valid}
 
@@ -145,14 +145,25 @@ module _ (r : Run) where
             let (of-run, verify) = from-fine (met .now-held) (met .from) in
             record { more = met .now-held; fine = record { keeps = met .keeps; pooled = f .pooled; of-run = of-run; verify = verify }; grown = met .grown }
 
-        -- a delivered chain that verifies is then no longer than what is held
-        delivery-long : (others : List Parts) → bytes ≡ chainBytes others → Valid r others → Below slot others → length others ≤ length (delivery-fine .more)
-        unfolding delivery-fine
-        delivery-long others is c below =
-            let admits = admits-verified bytes verdicts among others is (c .fits) [] others refl below (c .verify) in
-            let (d, _, a) = blocks-that-follow-and-are-admitted-are-accepted (opening (r .genesis) (r .table) slot) (delivered verdicts) others (c .whole)
-            (c .fits) (c .follows) admits in
-            met .long others d is a
+        module _ (others : List Parts) (is : bytes ≡ chainBytes others) (c : Valid r others) (below : Below slot others) where
+          -- a delivered chain that verifies is accepted
+          good : (d : Summary) × Accepted (opening (r .genesis) (r .table) slot) (delivered verdicts) others d
+          good =
+              let admits = admits-verified bytes verdicts among others is (c .fits) [] others refl below (c .verify) in
+              let (d, _, a) = blocks-that-follow-and-are-admitted-are-accepted (opening (r .genesis) (r .table) slot) (delivered verdicts) others (c .whole)
+              (c .fits) (c .follows) admits in
+              (d, a)
+
+          -- so it is then no longer than what is held
+          delivery-long : length others ≤ length (delivery-fine .more)
+          unfolding delivery-fine
+          delivery-long = met .long others (good .0) is (good .1)
+
+          pub delivery-answer : accepted (r .genesis) slot (s .buffer) (s .size) bytes verdicts
+              ≡ unless (ltb (length blocks) (length others)) 11 0 (gives (length others))
+          delivery-answer =
+              good-answer (r .genesis) (r .table) (premises .reads) slot (in-run .0) high s blocks bytes verdicts
+              (premises .typed i is-correct .deliveries slot bytes verdicts among) (f .keeps) others (good .0) is (good .1)
 
       meets-fine : (e : Event) → Among e (r .events i slot) → Grown (meets (r .genesis) slot s e) blocks
       meets-fine (delivery bytes verdicts) among = delivery-fine bytes verdicts among

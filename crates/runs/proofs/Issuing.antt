@@ -1,8 +1,8 @@
 -- One controller that issues in its turn: it is never refused, and holds one block more.
 -- Assumes nothing.
-use Prim.Native.Nat.{ℕ, zero, suc, _+_, _<_, _≤_}
+use Prim.Native.Nat.{ℕ, _+_, _<_, _≤_}
 use mathlib.Core.Path.{_≡_, refl, sym, ap, _∙_, subst}
-use mathlib.Core.Bool.{Bool, true, false}
+use mathlib.Core.Bool.{true}
 use mathlib.Core.List.{List, [], _∷_, _++_, append-nil}
 use native.Mathlib.Omega.{arith}
 use lib.ListN.{length, take, length-append}
@@ -11,7 +11,7 @@ use borrow.Author.Tests.{lt-ltb, le-leb, eq-eqb}
 use Rattle.laws.specs.Pick.{pick}
 use Rattle.laws.specs.Told.{Told, gives, then}
 use Rattle.laws.specs.Every.{within}
-use Rattle.laws.specs.Format.{Bytes, Each}
+use Rattle.laws.specs.Format.{Bytes}
 use Rattle.laws.specs.Placed.{placed, placing}
 use Rattle.laws.proofs.Every.{within-here}
 use Rattle.laws.proofs.Each.{each-weaker, each-append}
@@ -21,7 +21,7 @@ use Rattle.genesis.specs.Genesis.{genesisOf, turn}
 use Rattle.genesis.specs.declared.Genesis.{Genesis}
 use Rattle.block.specs.Block.{Parts, blockBytes, Fits}
 use Rattle.block.specs.declared.Front.{Front}
-use Rattle.chain.specs.Chain.{longest, linkOf, held, settles}
+use Rattle.chain.specs.Chain.{linkOf, held, settles}
 use Rattle.chain.specs.Blocks.{chainBytes, Accepted, Behind}
 use Rattle.chain.specs.declared.Opened.{Opened}
 use Rattle.chain.specs.declared.Standing.{Standing}
@@ -30,8 +30,8 @@ use Rattle.chain.proofs.Clocks.{last-is-below}
 use Rattle.chain.proofs.Theorems.{a-block-behind-an-accepted-chain-is-accepted, what-is-written-of-blocks-is-bytes, at-most-64256-bytes}
 use Rattle.pool.specs.Pool.{counting, ordersOf, taking}
 use Rattle.issue.specs.Issue.{nextFront, front, writing, written, appendBytes}
-use Rattle.issue.proofs.Appending.{Given, link-digest, followed-digest, nextParts, append-writes, next-follows, next-parts-fit}
-use Rattle.runs.specs.Runs.{Node, heldBytes, sizeOr, issues}
+use Rattle.issue.proofs.Appending.{link-digest, followed-digest, nextParts, append-writes, next-follows, next-parts-fit}
+use Rattle.runs.specs.Runs.{Node, sizeOr, issues}
 use Rattle.runs.proofs.Nodes.{opening, Keeps, keeps-later, Held, held-there, opens}
 use Rattle.runs.proofs.Pools.{Pooled}
 

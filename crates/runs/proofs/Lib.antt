@@ -5,3 +5,7 @@ pub mod Valid
 pub mod Linked
 pub mod Events
 pub mod Slots
+pub mod Agreed
+pub mod Releases
+pub mod Reported
+pub mod Theorems

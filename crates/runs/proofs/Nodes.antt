@@ -1,9 +1,9 @@
 -- One controller between calls: the blocks that it keeps while chains are delivered to it.
 -- Assumes nothing.
-use Prim.Native.Nat.{ℕ, zero, suc, _+_, _<_, _≤_}
-use mathlib.Core.Path.{_≡_, refl, sym, ap, _∙_, subst}
+use Prim.Native.Nat.{ℕ, _+_, _≤_}
+use mathlib.Core.Path.{_≡_, refl, sym, ap, ap₂, _∙_, subst}
 use mathlib.Core.Bool.{Bool, true, false}
-use mathlib.Core.List.{List, [], _∷_, _++_}
+use mathlib.Core.List.{List}
 use native.Mathlib.Omega.{arith}
 use lib.Dec.{ltb}
 use lib.ListN.{length, take}
@@ -24,9 +24,9 @@ use Rattle.chain.specs.declared.Opened.{Opened}
 use Rattle.chain.specs.declared.Standing.{Standing}
 use Rattle.chain.specs.declared.Summary.{Summary}
 use Rattle.chain.proofs.Clocks.{admits-held, admits-below}
-use Rattle.chain.proofs.Theorems.{blocks-that-follow-and-are-admitted-are-accepted, accepted-blocks-may-be-held, accepted-blocks-may-be-delivered, a-delivered-chain-is-accepted-blocks, accepted-blocks-have-one-summary, the-count-is-the-number-of-blocks, at-most-64256-bytes}
+use Rattle.chain.proofs.Theorems.{blocks-that-follow-and-are-admitted-are-accepted, accepted-blocks-may-be-held, accepted-blocks-may-be-delivered, a-delivered-chain-is-accepted-blocks, the-count-is-the-number-of-blocks, at-most-64256-bytes}
 use Rattle.adopt.specs.Adopt.{longer, accepted, adopted, adopting}
-use Rattle.runs.specs.Runs.{Node, heldBytes, delivery, sizeOr, meets}
+use Rattle.runs.specs.Runs.{Node, delivery, sizeOr, meets}
 
 -- what the calls are opened with in a slot
 abbrev pub opening : List ℕ → Genesis → ℕ → Opened
@@ -182,6 +182,16 @@ module _ (genesis : List ℕ) (table : Genesis) where
           long = λ others d is a. gives-not-refuses
               (sym e ∙ ap (λ (l : List ℕ). deliveredChain o l verdicts) is ∙ accepted-blocks-may-be-delivered o d verdicts others a);
         }
+
+        -- a good chain is answered by its count, or by 11
+        pub good-answer : (others : List Parts) (d : Summary) → bytes ≡ chainBytes others → Accepted o (delivered verdicts) others d
+            → accepted genesis clock (s .buffer) (s .size) bytes verdicts
+            ≡ unless (ltb (length blocks) (length others)) 11 0 (gives (length others))
+        good-answer others d is a =
+            judged-is
+            ∙ ap (longer (h .summary .whole .count .0))
+            (ap (λ (l : List ℕ). deliveredChain o l verdicts) is ∙ accepted-blocks-may-be-delivered o d verdicts others a)
+            ∙ ap₂ (λ (m n : ℕ). unless (ltb m n) 11 0 (gives n)) (h .count) (the-count-is-the-number-of-blocks o (delivered verdicts) others d a)
 
         pub met-delivery : Met clock (meets genesis clock s (delivery bytes verdicts)) blocks bytes verdicts
         met-delivery =

@@ -1,16 +1,15 @@
 -- One controller's pool: whatever it is offered, it never meets 18, and its orders can be written.
 -- Assumes nothing.
-use Prim.Native.Nat.{ℕ, zero, suc, _+_, _-_, _<_, _≤_, zero-le}
+use Prim.Native.Nat.{ℕ, zero, suc, _+_, _-_, _≤_, zero-le}
 use mathlib.Core.Path.{_≡_, refl, sym, ap, _∙_, subst}
-use mathlib.Core.Bool.{Bool, true, false}
+use mathlib.Core.Bool.{Bool, true}
 use mathlib.Core.List.{List, [], _∷_, _++_}
 use native.Mathlib.Omega.{arith}
 use lib.Dec.{ltb, leb}
-use lib.ListN.{length, take, replicate, length-append}
+use lib.ListN.{length, replicate, length-append}
 use borrow.Author.Tests.{ltb-true, le-leb}
 use Rattle.laws.specs.Told.{Told, gives, refuses}
-use Rattle.laws.specs.Every.{both, within, every}
-use Rattle.laws.specs.Fold.{those}
+use Rattle.laws.specs.Every.{within, every}
 use Rattle.laws.specs.Format.{Each}
 use Rattle.laws.proofs.Told.{gives-same, then-gives, unless-gives}
 use Rattle.laws.proofs.Every.{both-true, within-true, within-here}

@@ -1,37 +1,35 @@
 -- Slot by slot: what each correct controller keeps, what is issued in a correct turn, and that it reaches everybody.
 -- Assumes nothing.
-use Prim.Native.Nat.{ℕ, zero, suc, _+_, _-_, _%_, _<_, _≤_, zero-le}
+use Prim.Native.Nat.{ℕ, zero, suc, _+_, _-_, _%_, _≤_, zero-le}
 use mathlib.Core.Path.{_≡_, refl, sym, ap, _∙_, subst}
 use mathlib.Core.Bool.{Bool, true, false, not}
 use mathlib.Core.List.{List, [], _∷_, _++_, append-assoc, append-nil}
 use native.Mathlib.Nat.{mod-lt}
 use native.Mathlib.Omega.{arith}
 use lib.Dec.{ltb, eqb}
-use lib.ListN.{length, take, length-append}
+use lib.ListN.{length, length-append}
 use borrow.Author.Tests.{lt-ltb, eq-eqb, eqb-true}
 use Rattle.laws.specs.Pick.{pick}
-use Rattle.laws.specs.Told.{gives}
-use Rattle.laws.specs.Every.{within}
+use Rattle.laws.specs.Told.{gives, unless}
 use Rattle.laws.specs.Fold.{folded}
-use Rattle.laws.specs.Format.{Each}
 use Rattle.laws.proofs.Cases.{lt-cases}
 use Rattle.laws.proofs.Every.{within-here}
 use Rattle.laws.proofs.Each.{each-append}
 use Rattle.order.specs.declared.Order.{Order}
 use Rattle.genesis.specs.Genesis.{turn}
 use Rattle.genesis.proofs.Sound.{sound}
-use Rattle.block.specs.Block.{Parts, Fits}
-use Rattle.chain.specs.Chain.{longest, held, none}
+use Rattle.block.specs.Block.{Parts}
+use Rattle.chain.specs.Chain.{held, none}
 use Rattle.chain.specs.Blocks.{chainBytes, Below}
 use Rattle.chain.proofs.Theorems.{at-most-256-blocks}
-use Rattle.pool.specs.Pool.{poolOf}
+use Rattle.adopt.specs.Adopt.{accepted}
 use Rattle.agreement.specs.Core.{Long}
-use Rattle.runs.specs.Runs.{Node, heldBytes, Event, delivery, offer, meets, issues, Run, correct, start, afterDeliveries, afterIssuing, afterOffers, passed, inSlot, issued, Among, as-issued, InRun, OfRun, LastOf, Premises}
+use Rattle.runs.specs.Runs.{Node, heldBytes, Event, AdoptedOrEqualled, adopted-now, equalled, delivery, offer, meets, issues, Run, correct, afterIssuing, afterOffers, passed, inSlot, issued, as-issued, InRun, OfRun, Premises}
 use Rattle.runs.proofs.Nodes.{opening, Keeps, keeps-later}
 use Rattle.runs.proofs.Pools.{pooled-none, pooled-later, pooled-offer}
 use Rattle.runs.proofs.Issuing.{Issuer, block, still-accepted, keeps-one-more}
 use Rattle.runs.proofs.Valid.{blocksIn, the-blocks-in, Valid, setting}
-use Rattle.runs.proofs.Events.{Fine, fine-valid, fine-one, Grown, events-fine, delivered-is-held}
+use Rattle.runs.proofs.Events.{Fine, fine-valid, Grown, events-fine, delivered-is-held, delivery-answer}
 
 module _ (r : Run) (premises : Premises r) where
   -- ---- turns
@@ -105,6 +103,23 @@ module _ (r : Run) (premises : Premises r) where
         let few = delivered-is-held r premises i is-correct (suc slot) in-run b a (issued r slot) verdicts e (passed r i slot) (before .blocks) begins chain (it .is)
         (it .valid) (subst (λ (n : ℕ). Below n chain) (omega arith) (it .below)) (whole-slot .more) (whole-slot .fine) in
         omega (arith, few, ap length (issued-blocks slot it))
+
+    -- and the answer to it is its count, or 11
+    pub answered : Issued slot → (b a : List Event) (verdicts : List ℕ) → r .events i (suc slot) ≡ b ++ delivery (issued r slot) verdicts ∷ a
+        → AdoptedOrEqualled
+        (accepted (r .genesis) (suc slot) (folded (meets (r .genesis) (suc slot)) (passed r i slot) b .buffer)
+        (folded (meets (r .genesis) (suc slot)) (passed r i slot) b .size) (issued r slot) verdicts)
+    answered it b a verdicts e =
+        let chain = it .before ++ (it .block ∷ []) in
+        let s = folded (meets (r .genesis) (suc slot)) (passed r i slot) b in
+        let g = events-fine r premises i is-correct (suc slot) in-run [] b (delivery (issued r slot) verdicts ∷ a) e (passed r i slot) (before .blocks) begins in
+        let answer = delivery-answer r premises i is-correct (suc slot) in-run s (g .more) (g .fine) (issued r slot) verdicts (b, a, e) chain (it .is) (it .valid)
+        (subst (λ (n : ℕ). Below n chain) (omega arith) (it .below)) in
+        subst AdoptedOrEqualled (sym answer) (by-test (ltb (length (g .more)) (length chain)) (length chain))
+      where
+        by-test : (β : Bool) (count : ℕ) → AdoptedOrEqualled (unless β 11 0 (gives count))
+        by-test true count = adopted-now count
+        by-test false count = equalled
 
     long-now : (1 ≤ slot → correct r (turn (r .table) slot) → Issued slot) → Long (setting r) (suc slot) (whole-slot .more)
     long-now it j good low below =
@@ -194,6 +209,10 @@ module _ (r : Run) (premises : Premises r) where
       few = at-most-256-blocks (opening (r .genesis) (r .table) slot) held longer _
           (still-accepted (r .genesis) (r .table) slot (inSlot r i slot) (at .blocks) issuer);
     }
+
+    pub one-more : length (blocksIn (issued r slot)) ≡ length (at .blocks) + 1
+    unfolding issue
+    one-more = ap length (issued-blocks slot issue) ∙ length-append (at .blocks) (new ∷ [])
 
   -- ---- the rest of a slot
   module _ (i : ℕ) (is-correct : correct r i) (slot : ℕ) (in-run : InRun r slot) (at : Delivered i slot) where
@@ -305,6 +324,15 @@ module _ (r : Run) (premises : Premises r) where
   pub delivered-at : (i : ℕ) → correct r i → (slot : ℕ) → InRun r slot → Delivered i slot
   delivered-at i is-correct zero (low, high) = absurd (omega arith)
   delivered-at i is-correct (suc slot) (low, high) = next-delivered slot (low, high) (upto slot (omega arith)) i is-correct
+
+  pub answered-at : (i : ℕ) → correct r i → (slot : ℕ) → InRun r slot → InRun r (suc slot) → correct r (turn (r .table) slot)
+      → (b a : List Event) (verdicts : List ℕ) → r .events i (suc slot) ≡ b ++ delivery (issued r slot) verdicts ∷ a
+      → AdoptedOrEqualled
+      (accepted (r .genesis) (suc slot) (folded (meets (r .genesis) (suc slot)) (passed r i slot) b .buffer)
+      (folded (meets (r .genesis) (suc slot)) (passed r i slot) b .size) (issued r slot) verdicts)
+  answered-at i is-correct slot (low, high) in-run good =
+      let so-far = upto slot high in
+      answered i is-correct slot in-run (so-far .all i is-correct) (so-far .issues-well low good)
 
   pub issued-at : (slot : ℕ) → InRun r slot → correct r (turn (r .table) slot) → Issued slot
   issued-at slot (low, high) good = upto slot high .issues-well low good

@@ -1,14 +1,14 @@
 -- A run as the argument's setting: which lists of blocks are valid in it, and the blocks of a chain's bytes.
 -- Assumes nothing.
-use Prim.Native.Nat.{ℕ, zero, suc, _+_, _<_, _≤_}
-use mathlib.Core.Path.{_≡_, refl, sym, ap, _∙_, subst}
-use mathlib.Core.Bool.{Bool, true, not}
+use Prim.Native.Nat.{ℕ, zero, suc, _+_, _≤_}
+use mathlib.Core.Path.{_≡_, refl, sym, ap, _∙_}
+use mathlib.Core.Bool.{true, not}
 use mathlib.Core.List.{List, [], _∷_, _++_, append-assoc, append-nil}
 use native.Mathlib.Nat.{not-suc-le-zero, le-of-suc-le-suc}
 use native.Mathlib.Omega.{arith}
 use lib.ListN.{length, length-append}
 use borrow.Author.Tests.{lt-leb}
-use Rattle.laws.specs.Told.{Told, gives, refuses, Found, then}
+use Rattle.laws.specs.Told.{Told, gives, refuses, Found}
 use Rattle.laws.specs.Format.{Each}
 use Rattle.laws.proofs.Told.{then-gives}
 use Rattle.laws.proofs.Each.{each-parts}

@@ -45,6 +45,11 @@ abbrev pub sizeOr : {A : Type 0} → ℕ → (A → ℕ) → Told A → ℕ
 sizeOr before size (gives a) = size a
 sizeOr before size (refuses number place) = before
 
+-- what is delivered is adopted, or as many blocks are held already: 11
+pub data AdoptedOrEqualled : Told ℕ → Type 0 where
+  adopted-now : (count : ℕ) → AdoptedOrEqualled (gives count)
+  equalled : AdoptedOrEqualled (refuses 11 0)
+
 -- an event is a call: adopt, or pool an order
 abbrev pub meets : (genesis : List ℕ) (clock : ℕ) → Node → Event → Node
 meets genesis clock s (delivery bytes verdicts) = record {
@@ -58,11 +63,15 @@ meets genesis clock s (offer order) = record {
   pool = poolOr (s .pool) (offered genesis clock (s .buffer) (s .size) (s .pool) order);
 }
 
--- issuing is the call append, with the signatures that the host gives
+-- issuing is the call append, with the signatures that the host gives: what it answers, and what is kept then
+abbrev pub appends : (genesis : List ℕ) (clock controller : ℕ) (signature seal : List ℕ) → Node → Told ℕ
+appends genesis clock controller signature seal s =
+    writing (appendBytes seal) (front genesis clock (s .buffer) (s .size) (s .pool) controller signature) (s .buffer) (s .size)
+
 abbrev pub issues : (genesis : List ℕ) (clock controller : ℕ) (signature seal : List ℕ) → Node → Node
 issues genesis clock controller signature seal s = record {
   buffer = written (appendBytes seal) (front genesis clock (s .buffer) (s .size) (s .pool) controller signature) (s .buffer) (s .size);
-  size = sizeOr (s .size) (λ n. n) (writing (appendBytes seal) (front genesis clock (s .buffer) (s .size) (s .pool) controller signature) (s .buffer) (s .size));
+  size = sizeOr (s .size) (λ n. n) (appends genesis clock controller signature seal s);
   pool = s .pool;
 }
 
