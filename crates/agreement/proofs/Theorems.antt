@@ -8,7 +8,7 @@ use mathlib.Core.Path.{_≡_}
 use mathlib.Core.Bool.{Bool}
 use mathlib.Core.List.{List, [], _∷_, _++_}
 use lib.ListN.{length}
-use Rattle.agreement.specs.Core.{Setting, goodBetween, Windows, Turns, Begins, settled, Parted, Viable, Laws}
+use Rattle.agreement.specs.Core.{Setting, goodBetween, Windows, depthFor, Turns, Begins, settled, Parted, Viable, Laws}
 use Rattle.agreement.proofs.Windows.{windows}
 use Rattle.agreement.proofs.Chains.{settled-parts, issued-unsettled}
 use Rattle.agreement.proofs.Growth.{growth, some-viable}
@@ -19,7 +19,7 @@ pub settled-blocks-are-the-front : (s : Setting) → Laws s → (depth j : ℕ) 
 settled-blocks-are-the-front s laws depth j c passes = settled-parts s depth j 0 c (laws .rises c passes)
 
 -- section 4; another depth only brings another theorem in this one's place
-pub fewer-than-a-third-are-bad : (s : Setting) (n t : ℕ) (faulty : ℕ → Bool) → Turns s n t faulty → Windows s (3 * t + 1)
+pub fewer-than-a-third-are-bad : (s : Setting) (n t : ℕ) (faulty : ℕ → Bool) → Turns s n t faulty → Windows s (depthFor t)
 fewer-than-a-third-are-bad = windows
 
 module _ (s : Setting) (laws : Laws s) where
@@ -49,12 +49,12 @@ module _ (s : Setting) (laws : Laws s) where
   -- all of it, for n controllers that take turns
   module _ (n t : ℕ) (faulty : ℕ → Bool) (turns : Turns s n t faulty) where
     pub no-two-reports-differ : (j : ℕ) (c e : List (s .Block)) → j ≤ s .end + 1 → Viable s j c → Viable s j e
-        → settled s (3 * t + 1) j c ≡ settled s (3 * t + 1) j e
-    no-two-reports-differ = same-slot s laws (3 * t + 1) (windows s n t faulty turns)
+        → settled s (depthFor t) j c ≡ settled s (depthFor t) j e
+    no-two-reports-differ = same-slot s laws (depthFor t) (windows s n t faulty turns)
 
     pub no-report-is-taken-back : (j j′ : ℕ) (c e : List (s .Block)) → j ≤ j′ → j′ ≤ s .end + 1 → Viable s j c → Viable s j′ e
-        → Begins (settled s (3 * t + 1) j c) (settled s (3 * t + 1) j′ e)
-    no-report-is-taken-back = later-settled s laws (3 * t + 1) (windows s n t faulty turns)
+        → Begins (settled s (depthFor t) j c) (settled s (depthFor t) j′ e)
+    no-report-is-taken-back = later-settled s laws (depthFor t) (windows s n t faulty turns)
 
 -- section 2: a controller that issues in slot j reports what it reported before
 pub issuing-settles-nothing : (s : Setting) (depth j : ℕ) (c : List (s .Block)) (b : s .Block) → s .stamp b ≡ j

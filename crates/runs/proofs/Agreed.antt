@@ -19,7 +19,7 @@ use Rattle.chain.specs.Blocks.{chainBytes, followed, settledOf}
 use Rattle.chain.specs.declared.Standing.{Standing}
 use Rattle.chain.proofs.Theorems.{the-bytes-tell-the-blocks, the-settled-bytes-are-the-settled-blocks}
 use Rattle.report.specs.Report.{Report, reportOf}
-use Rattle.agreement.specs.Core.{Turns, settled, Viable, Issue, Laws}
+use Rattle.agreement.specs.Core.{depthFor, Turns, settled, Viable, Issue, Laws}
 use Rattle.runs.specs.Runs.{Run, correct, inSlot, holds, reports, issued, InRun, OfRun, Premises}
 use Rattle.runs.proofs.Nodes.{opening, keeps-later, held-there, opens}
 use Rattle.runs.proofs.Valid.{Valid, setting, blocksIn, none-valid, front-valid, valid-rises}
@@ -73,7 +73,7 @@ module _ (r : Run) (premises : Premises r) where
 
   -- ---- a correct controller in a slot
   settled-same : (slot : ℕ) (blocks : List Parts)
-      → settled (setting r) (3 * r .table .t + 1) slot blocks ≡ settledOf (opening (r .genesis) (r .table) slot) blocks
+      → settled (setting r) (depthFor (r .table .t)) slot blocks ≡ settledOf (opening (r .genesis) (r .table) slot) blocks
   unfolding settled
   settled-same slot [] = refl
   settled-same slot (p ∷ rest) =
@@ -85,9 +85,9 @@ module _ (r : Run) (premises : Premises r) where
     pub viable : Viable (setting r) slot blocks
     pub are : holds r i slot ≡ chainBytes blocks
     pub counts : a .held ≡ length blocks
-    pub bytes : take (a .length) (holds r i slot) ≡ chainBytes (settled (setting r) (3 * r .table .t + 1) slot blocks)
+    pub bytes : take (a .length) (holds r i slot) ≡ chainBytes (settled (setting r) (depthFor (r .table .t)) slot blocks)
     pub last : Standing
-    pub follows : followed (none (opening (r .genesis) (r .table) 0)) (settled (setting r) (3 * r .table .t + 1) slot blocks) ≡ gives last
+    pub follows : followed (none (opening (r .genesis) (r .table) 0)) (settled (setting r) (depthFor (r .table .t)) slot blocks) ≡ gives last
     pub settled-count : a .settled ≡ last .count .0
     pub settled-length : a .length ≡ last .length
     pub settled-releases : a .releases ≡ last .releases

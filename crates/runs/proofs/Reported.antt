@@ -16,7 +16,7 @@ use Rattle.chain.specs.Blocks.{chainBytes, followed}
 use Rattle.chain.specs.declared.Standing.{Standing}
 use Rattle.chain.proofs.Theorems.{the-bytes-tell-the-blocks, blocks-follow-part-by-part}
 use Rattle.report.specs.Report.{Report}
-use Rattle.agreement.specs.Core.{howMany, Windows, Begins, settled}
+use Rattle.agreement.specs.Core.{depthFor, howMany, Windows, Begins, settled}
 use Rattle.agreement.proofs.Theorems as argument
 use Rattle.runs.specs.Runs.{appends, Run, correct, inSlot, holds, reports, InRun, Premises}
 use Rattle.runs.proofs.Nodes.{opening}
@@ -31,7 +31,7 @@ bytes-begin xs ys (rest, e) = (chainBytes rest, ap chainBytes e ∙ joined-appen
 
 module _ (r : Run) (premises : Premises r) where
   abbrev depth : ℕ
-  depth = 3 * r .table .t + 1
+  depth = depthFor (r .table .t)
 
   window : Windows (setting r) depth
   window = argument.fewer-than-a-third-are-bad (setting r) (r .table .n) (r .table .t) (r .faulty) (turns r premises)
