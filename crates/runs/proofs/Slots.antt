@@ -8,11 +8,11 @@ use native.Mathlib.Nat.{mod-lt}
 use native.Mathlib.Omega.{arith}
 use lib.Dec.{ltb, eqb}
 use lib.ListN.{length, length-append}
-use borrow.Author.Tests.{lt-ltb, eq-eqb, eqb-true}
+use borrow.Author.Tests.{lt-ltb, eq-eqb, eqb-true, eqb-false}
 use Rattle.laws.specs.Pick.{pick}
 use Rattle.laws.specs.Told.{gives, unless}
 use Rattle.laws.specs.Fold.{folded}
-use Rattle.laws.proofs.Cases.{lt-cases}
+use Rattle.laws.proofs.Cases.{lt-cases, eq-cases}
 use Rattle.laws.proofs.Every.{within-here}
 use Rattle.laws.proofs.Each.{each-append}
 use Rattle.order.specs.declared.Order.{Order}
@@ -62,6 +62,8 @@ module _ (r : Run) (premises : Premises r) where
     pub blocks : List Parts
     pub fine : Fine r (slot + 1) slot (passed r i slot) blocks
     pub long : Long (setting r) slot blocks
+    -- what it issued itself it holds
+    pub own : 1 ≤ slot → turn (r .table) slot ≡ i → length (blocksIn (issued r slot)) ≤ length blocks
 
   -- the chain that was issued in a correct turn
   pub record Issued (slot : ℕ) : Type 0 where
@@ -98,11 +100,13 @@ module _ (r : Run) (premises : Premises r) where
     -- what was issued in the slot before is no longer than what is held now
     reached : 1 ≤ slot → correct r (turn (r .table) slot) → Issued slot → length (blocksIn (issued r slot)) ≤ length (whole-slot .more)
     reached low good it =
-        let (verdicts, (b, a, e)) = premises .reaches slot i low (omega (arith, in-run .1)) good is-correct in
+        eq-cases (turn (r .table) slot) i (λ mine. omega (arith, before .own low mine, whole-slot .grown))
+        (λ theirs.
+        let (verdicts, (b, a, e)) = premises .reaches slot i low (omega (arith, in-run .1)) good is-correct theirs in
         let chain = it .before ++ (it .block ∷ []) in
-        let few = delivered-is-held r premises i is-correct (suc slot) in-run b a (issued r slot) verdicts e (passed r i slot) (before .blocks) begins chain (it .is)
-        (it .valid) (subst (λ (n : ℕ). Below n chain) (omega arith) (it .below)) (whole-slot .more) (whole-slot .fine) in
-        omega (arith, few, ap length (issued-blocks slot it))
+        let few = delivered-is-held r premises i is-correct (suc slot) in-run b a (issued r slot) verdicts e (passed r i slot) (before .blocks) begins chain
+        (it .is) (it .valid) (subst (λ (n : ℕ). Below n chain) (omega arith) (it .below)) (whole-slot .more) (whole-slot .fine) in
+        omega (arith, few, ap length (issued-blocks slot it)))
 
     -- and the answer to it is its count, or 11
     pub answered : Issued slot → (b a : List Event) (verdicts : List ℕ) → r .events i (suc slot) ≡ b ++ delivery (issued r slot) verdicts ∷ a
@@ -221,6 +225,7 @@ module _ (r : Run) (premises : Premises r) where
       blocks : List Parts
       fine : Fine r (slot + 1) slot s blocks
       grown : length (at .blocks) ≤ length blocks
+      own : turn (r .table) slot ≡ i → length (blocksIn (issued r slot)) ≤ length blocks
 
     issuing-after : After (afterIssuing r i slot (inSlot r i slot))
     issuing-after = by-turn (eqb (turn (r .table) slot) i) refl
@@ -233,6 +238,11 @@ module _ (r : Run) (premises : Premises r) where
               blocks = at .blocks ++ (new i is-correct slot in-run is-turn at ∷ []);
               fine = issue-fine i is-correct slot in-run is-turn at;
               grown = omega (arith, length-append (at .blocks) (new i is-correct slot in-run is-turn at ∷ []));
+              own = λ mine. omega (
+                arith,
+                one-more i is-correct slot in-run is-turn at,
+                length-append (at .blocks) (new i is-correct slot in-run is-turn at ∷ []),
+              );
             }
         by-turn false e = record {
           blocks = at .blocks;
@@ -243,6 +253,7 @@ module _ (r : Run) (premises : Premises r) where
             verify = at .fine .verify;
           };
           grown = omega arith;
+          own = λ mine. absurd (eqb-false (turn (r .table) slot) i e mine);
         }
 
     offers-after : (before rest : List Order) → r .offers i slot ≡ before ++ rest → (s : Node) → After s
@@ -260,6 +271,7 @@ module _ (r : Run) (premises : Premises r) where
             verify = f .fine .verify;
           };
           grown = f .grown;
+          own = f .own;
         })
 
     slot-after : After (afterOffers r i slot (afterIssuing r i slot (inSlot r i slot)))
@@ -274,6 +286,7 @@ module _ (r : Run) (premises : Premises r) where
     blocks = slot-after i is-correct (suc slot) in-run at .blocks;
     fine = slot-after i is-correct (suc slot) in-run at .fine;
     long = long-after i is-correct (suc slot) in-run at;
+    own = λ low. slot-after i is-correct (suc slot) in-run at .own;
   }
 
   -- ---- from the first slot on
@@ -297,6 +310,7 @@ module _ (r : Run) (premises : Premises r) where
       verify = tt;
     };
     long = λ j good low below. absurd (omega arith);
+    own = λ low. absurd (omega arith);
   }
 
   record Upto (slot : ℕ) : Type 0 where

@@ -23,7 +23,8 @@ module _ (r : Run) (premises : Premises r) where
   pub no-report-is-refused : (i : ℕ) → correct r i → (j : ℕ) → InRun r j → (a : Report) × (reports r i j ≡ gives a)
   no-report-is-refused = given r premises
 
-  -- "The bytes that correct controller i reports settled in slot j are the beginning of the chain that correct controller k holds in slot j or later."
+  -- "what one correct controller reports settled in some slot, after its deliveries, is the beginning of the chain that any correct controller holds
+  -- after its deliveries in that slot or any later one of the run"
   module _ (i k : ℕ) (i-correct : correct r i) (k-correct : correct r k) (j j′ : ℕ) (in-run : InRun r j) (in-run′ : InRun r j′) (later : j ≤ j′)
       (a : Report) (says : reports r i j ≡ gives a) where
     pub what-is-settled-begins-every-later-chain : Begins (take (a .length) (holds r i j)) (holds r k j′)
@@ -42,7 +43,7 @@ module _ (r : Run) (premises : Premises r) where
       → (take (a .length) (holds r i j) ≡ take (b .length) (holds r k j)) × (a .settled ≡ b .settled) × (a .length ≡ b .length) × (a .releases ≡ b .releases)
   no-two-reports-differ = reported.same r premises
 
-  -- "after deliveries in slot j a correct controller holds at least as many blocks as there were correct turns before j"
+  -- "at slot j after deliveries, a correct controller holds at least as many blocks as there were correct turns before j"
   pub held-chains-grow : (i : ℕ) → correct r i → (j : ℕ) → InRun r j → (a : Report) → reports r i j ≡ gives a
       → howMany (λ slot. not (r .faulty (turn (r .table) slot))) 0 (j - 1) ≤ a .held
   held-chains-grow = reported.grows r premises

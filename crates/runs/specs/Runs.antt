@@ -182,8 +182,8 @@ pub record Premises (r : Run) : Type 0 where
   -- "lend full-sized buffers"
   pub full : (i : ℕ) → correct r i → longest ≤ length (r .lent i)
   pub typed : (i : ℕ) → correct r i → Typed r i
-  -- "The whole chain that a correct one issues reaches every correct one in the next slot."
-  pub reaches : (slot i : ℕ) → 1 ≤ slot → slot < r .end → correct r (turn (r .table) slot) → correct r i
+  -- "The whole chain that a correct one issues reaches every correct one in the next slot." It need not be sent to the one that issued it
+  pub reaches : (slot i : ℕ) → 1 ≤ slot → slot < r .end → correct r (turn (r .table) slot) → correct r i → (turn (r .table) slot ≡ i → ⊥)
       → (verdicts : List ℕ) × Among (delivery (issued r slot) verdicts) (r .events i (suc slot))
   -- "Signature verdicts are true and none is missing": a block's verdict is 3 exactly if its signatures verify
   pub verdicts : (i slot : ℕ) → correct r i → InRun r slot → (bytes verdicts : List ℕ) → Among (delivery bytes verdicts) (r .events i slot)
