@@ -2,6 +2,7 @@ pub mod Judging
 pub mod Passing
 pub mod Calls
 pub mod Following
+pub mod Releases
 pub mod Settling
 pub mod Accepting
 pub mod Accepted

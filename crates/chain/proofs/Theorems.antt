@@ -14,8 +14,9 @@ use Rattle.chain.specs.Chain.{longest, linkOf, Way, delivered, held, set
 use Rattle.chain.specs.declared.Opened.{Opened}
 use Rattle.chain.specs.declared.Standing.{Standing}
 use Rattle.chain.specs.declared.Summary.{Summary}
-use Rattle.chain.specs.Blocks.{chainBytes, followed, Admits, settledOf, Accepted, Checks, Behind, atSlot, Rising, Below, lastStamp}
+use Rattle.chain.specs.Blocks.{chainBytes, followed, Admits, settledOf, Accepted, Checks, Behind, atSlot, Rising, Below, NoneFell, lastStamp}
 use Rattle.chain.proofs.Following.{followed-append, adds, first-link, next-link}
+use Rattle.chain.proofs.Releases.{followed-raises}
 use Rattle.chain.proofs.Settling.{settled-exactly}
 use Rattle.chain.proofs.Accepting.{same-blocks}
 use Rattle.chain.proofs.Accepted as accepted
@@ -107,6 +108,9 @@ module _ (before : Standing) (blocks : List Parts) (after : Standing) (e : follo
 
   pub the-lengths-add-up : after .length ≡ before .length + length (chainBytes blocks)
   the-lengths-add-up = adds before blocks after e .size
+
+  pub no-release-falls : NoneFell (before .releases) (after .releases)
+  no-release-falls = followed-raises before blocks after e
 
   pub the-last-stamp-stands : after .stamp .0 ≡ lastStamp (before .stamp .0) blocks
   the-last-stamp-stands = adds before blocks after e .stamp

@@ -1,11 +1,11 @@
 -- 01, "Orders, blocks, chains": "A chain is blocks end to end, genesis not repeated; zero bytes are the chain of no blocks." What an accepted chain
 -- is as a list of blocks, with no byte in sight but for lengths and links.
 -- Assumes nothing.
-use Prim.Native.Nat.{ℕ, _+_, _<_}
+use Prim.Native.Nat.{ℕ, _+_, _<_, _≤_}
 use mathlib.Core.Path.{_≡_}
 use mathlib.Core.List.{List, [], _∷_}
 use lib.Dec.{ltb}
-use lib.ListN.{length}
+use lib.ListN.{length, getD}
 use Rattle.laws.specs.Pick.{pick}
 use Rattle.laws.specs.Told.{Told, gives, then, unless}
 use Rattle.laws.specs.Every.{same}
@@ -85,6 +85,10 @@ Rising from (p ∷ rest) = (from < p .slot) × Rising (p .slot) rest
 
 abbrev pub Below : ℕ → List Parts → Type 0
 Below clock blocks = Each (λ p. p .slot < clock) blocks
+
+-- each display's release is at least what it was
+abbrev pub NoneFell : List ℕ → List ℕ → Type 0
+NoneFell before after = (display : ℕ) → getD before display 0 ≤ getD after display 0
 
 -- the last stamp, or what is given where there is no block
 abbrev pub lastStamp : ℕ → List Parts → ℕ

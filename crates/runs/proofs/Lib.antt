@@ -6,6 +6,5 @@ pub mod Linked
 pub mod Events
 pub mod Slots
 pub mod Agreed
-pub mod Releases
 pub mod Reported
 pub mod Theorems

@@ -12,9 +12,9 @@ use Rattle.laws.proofs.Taken.{joined-append}
 use Rattle.genesis.specs.Genesis.{turn}
 use Rattle.block.specs.Block.{Parts, blockBytes}
 use Rattle.chain.specs.Chain.{none}
-use Rattle.chain.specs.Blocks.{chainBytes, followed}
+use Rattle.chain.specs.Blocks.{chainBytes, followed, NoneFell}
 use Rattle.chain.specs.declared.Standing.{Standing}
-use Rattle.chain.proofs.Theorems.{the-bytes-tell-the-blocks, blocks-follow-part-by-part}
+use Rattle.chain.proofs.Theorems.{the-bytes-tell-the-blocks, blocks-follow-part-by-part, no-release-falls}
 use Rattle.report.specs.Report.{Report}
 use Rattle.agreement.specs.Core.{depthFor, howMany, Windows, Begins, settled}
 use Rattle.agreement.proofs.Theorems as argument
@@ -24,7 +24,6 @@ use Rattle.runs.proofs.Issuing.{never-refused}
 use Rattle.runs.proofs.Valid.{setting}
 use Rattle.runs.proofs.Slots.{issuer, one-more, delivered-at}
 use Rattle.runs.proofs.Agreed.{laws, turns, Reporter, given, reporter}
-use Rattle.runs.proofs.Releases.{NoneFell, followed-raises}
 
 bytes-begin : (xs ys : List Parts) → Begins xs ys → Begins (chainBytes xs) (chainBytes ys)
 bytes-begin xs ys (rest, e) = (chainBytes rest, ap chainBytes e ∙ joined-append blockBytes xs rest)
@@ -63,7 +62,7 @@ module _ (r : Run) (premises : Premises r) where
         let same : middle ≡ x .last = gives-same (sym first ∙ x .follows) in
         omega (
           arith,
-          followed-raises middle rest (y .last) second display,
+          no-release-falls middle rest (y .last) second display,
           ap (λ (q : Standing). getD (q .releases) display 0) same,
           ap (λ (l : List ℕ). getD l display 0) (x .settled-releases),
           ap (λ (l : List ℕ). getD l display 0) (y .settled-releases),

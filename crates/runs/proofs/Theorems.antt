@@ -9,11 +9,11 @@ use lib.ListN.{take}
 use Rattle.laws.specs.Told.{gives}
 use Rattle.laws.specs.Fold.{folded}
 use Rattle.genesis.specs.Genesis.{turn}
+use Rattle.chain.specs.Blocks.{NoneFell}
 use Rattle.adopt.specs.Adopt.{accepted}
 use Rattle.report.specs.Report.{Report}
 use Rattle.agreement.specs.Core.{howMany, Begins}
 use Rattle.runs.specs.Runs.{Event, delivery, AdoptedOrEqualled, meets, appends, Run, correct, passed, inSlot, holds, reports, issued, InRun, Premises}
-use Rattle.runs.proofs.Releases.{NoneFell}
 use Rattle.runs.proofs.Slots.{answered-at}
 use Rattle.runs.proofs.Agreed.{given}
 use Rattle.runs.proofs.Reported as reported

@@ -13,13 +13,9 @@ use Rattle.order.specs.Order.{valid, applied}
 use Rattle.order.specs.declared.Order.{Order}
 use Rattle.order.proofs.Validity.{valid-parts}
 use Rattle.block.specs.Block.{Parts}
 use Rattle.chain.specs.Chain.{obeyed}
-use Rattle.chain.specs.Blocks.{follows, followed}
+use Rattle.chain.specs.Blocks.{follows, followed, NoneFell}
 use Rattle.chain.specs.declared.Standing.{Standing}
-
--- each display's release is at least what it was
-abbrev pub NoneFell : List ℕ → List ℕ → Type 0
-NoneFell before after = (display : ℕ) → getD before display 0 ≤ getD after display 0
 
 set-raises : (l : List ℕ) (at value : ℕ) → getD l at 0 ≤ value → NoneFell l (set l at value)
 set-raises [] at value h display = omega arith
