@@ -152,3 +152,23 @@ same-blocks (x ∷ xs) (y ∷ ys) (fit, fits) (fit′, fits′) e =
     let moved : blockBytes x ++ chainBytes xs ≡ blockBytes x ++ chainBytes ys = e ∙ ap (λ (p : Parts). blockBytes p ++ chainBytes ys) (sym first) in
     let others = same-blocks xs ys fits fits′ (append-cancel-left (blockBytes x) (chainBytes xs) (chainBytes ys) moved) in
     ap (λ (p : Parts). p ∷ xs) first ∙ ap (λ (l : List Parts). y ∷ l) others
+
+-- what begins with blocks' bytes begins with those blocks
+pub front-blocks : (xs ys : List Parts) (rest : List ℕ) → Each Fits xs → Each Fits ys → chainBytes xs ≡ chainBytes ys ++ rest
+    → (zs : List Parts) × (xs ≡ ys ++ zs)
+front-blocks xs [] rest fits fits′ e = (xs, refl)
+front-blocks [] (y ∷ ys) rest fits (fit′, fits′) e =
+    absurd
+    (omega (
+      arith,
+      ap length e,
+      length-append (blockBytes y ++ chainBytes ys) rest,
+      length-append (blockBytes y) (chainBytes ys),
+      a-block-has-162-to-251-bytes y fit′,
+    ))
+front-blocks (x ∷ xs) (y ∷ ys) rest (fit, fits) (fit′, fits′) e =
+    let apart = e ∙ append-assoc (blockBytes y) (chainBytes ys) rest in
+    let first : x ≡ y = same-front block-inverse x y fit fit′ (chainBytes xs) (chainBytes ys ++ rest) apart in
+    let moved = apart ∙ ap (λ (p : Parts). blockBytes p ++ (chainBytes ys ++ rest)) (sym first) in
+    let (zs, others) = front-blocks xs ys rest fits fits′ (append-cancel-left (blockBytes x) (chainBytes xs) (chainBytes ys ++ rest) moved) in
+    (zs, ap (λ (p : Parts). p ∷ xs) first ∙ ap (λ (l : List Parts). y ∷ l) others)

@@ -18,7 +18,7 @@ use Rattle.chain.specs.Blocks.{chainBytes, followed, Admits, settledOf, 
 use Rattle.chain.proofs.Following.{followed-append, adds, first-link, next-link}
 use Rattle.chain.proofs.Releases.{followed-raises}
 use Rattle.chain.proofs.Settling.{settled-exactly}
-use Rattle.chain.proofs.Accepting.{same-blocks}
+use Rattle.chain.proofs.Accepting.{same-blocks, front-blocks}
 use Rattle.chain.proofs.Accepted as accepted
 use Rattle.chain.proofs.Clocks as clocks
 use Rattle.chain.proofs.Chains as chains
@@ -45,6 +45,10 @@ module _ (o : Opened) (way : Way) where
 
 pub the-bytes-tell-the-blocks : (xs ys : List Parts) → Each Fits xs → Each Fits ys → chainBytes xs ≡ chainBytes ys → xs ≡ ys
 the-bytes-tell-the-blocks = same-blocks
+
+pub bytes-at-the-front-are-blocks-at-the-front : (xs ys : List Parts) (rest : List ℕ) → Each Fits xs → Each Fits ys
+    → chainBytes xs ≡ chainBytes ys ++ rest → (zs : List Parts) × (xs ≡ ys ++ zs)
+bytes-at-the-front-are-blocks-at-the-front = front-blocks
 
 -- whatever the genesis, the slot and the verdicts
 pub a-chain-has-one-list-of-blocks : (o o′ : Opened) (way way′ : Way) (chain : List ℕ) (xs ys : List Parts) (s s′ : Summary)
