@@ -1,0 +1,189 @@
+-- The run keeps what demand 3 asks of a run, one premise after the other.
+-- Assumes nothing.
+use Prim.Native.Nat.{ℕ, zero, suc, _+_, _<_, _≤_}
+use mathlib.Core.Path.{_≡_, refl, sym, ap, _∙_, subst}
+use mathlib.Core.Bool.{Bool, true}
+use mathlib.Core.List.{List, [], _∷_, _++_}
+use native.Mathlib.Omega.{arith}
+use lib.Dec.{ltb}
+use lib.ListN.{length, getD, length-append}
+use borrow.Author.Tests.{lt-ltb, le-ltb, ltb-true, eqb-false}
+use Rattle.laws.specs.Pick.{pick}
+use Rattle.laws.specs.Every.{every}
+use Rattle.laws.specs.Format.{Bytes, Each}
+use Rattle.laws.proofs.Bytes.{bytes-nil, bytes-cons}
+use Rattle.laws.proofs.Cases.{lt-cases}
+use Rattle.laws.proofs.Each.{each-parts}
+use Rattle.laws.proofs.Every.{both-true}
+use Rattle.order.specs.declared.Order.{Order}
+use Rattle.genesis.specs.Genesis.{turn}
+use Rattle.block.specs.Block.{Parts, Fits}
+use Rattle.chain.specs.Blocks.{chainBytes}
+use Rattle.chain.proofs.Theorems.{what-is-written-of-blocks-is-bytes, bytes-at-the-front-are-blocks-at-the-front}
+use Rattle.agreement.specs.Core.{howMany}
+use Rattle.runs.specs.Runs.{Event, delivery, offer, correct, passed, holds, issued, Among, Meets, in-delivery, as-held, as-issued, InRun, OfRun, Typed, LastOf, Premises}
+use Rattle.forked.specs.Forked.{genesis, table, next, other, chain, given, verdicts, events, run}
+use Rattle.forked.proofs.Blocks.{signed, sealed, Named, in-turn, forked, Good, chain-good, given-good}
+use Rattle.forked.proofs.Held.{reads, full, buffer-bytes, three, held-in-slot, issued-in-slot}
+use Rattle.forked.proofs.Different.{one-digest-one-block, not-the-genesis}
+
+-- ---- places in a list
+module _ {A : Type 0} (a : A) where
+  nowhere : Among a [] → ⊥
+  nowhere (before, after, e) = omega (arith, ap length e, length-append before (a ∷ after))
+
+  headOr : List A → A
+  headOr [] = a
+  headOr (b ∷ l) = b
+
+  the-only : (b : A) → Among a (b ∷ []) → a ≡ b
+  unfolding headOr
+  the-only b ([], after, e) = sym (ap headOr e)
+  the-only b (c ∷ before, after, e) = absurd (omega (arith, ap length e, length-append before (a ∷ after)))
+
+  at-it : (P : A → Type 0) (l : List A) → Each P l → Among a l → P a
+  at-it P l each (before, after, e) = each-parts P before (a ∷ after) (subst (Each P) e each) .1 .0
+
+-- ---- what is delivered
+bytesOf : Event → List ℕ
+bytesOf (delivery bytes v) = bytes
+bytesOf (offer order) = []
+
+verdictsOf : Event → List ℕ
+verdictsOf (delivery bytes v) = v
+verdictsOf (offer order) = []
+
+isOffer : Event → ℕ
+isOffer (delivery bytes v) = 0
+isOffer (offer order) = 1
+
+-- what a controller meets in slot k + 2
+met-in-slot : (e : Event) (i k : ℕ) → Among e (events i (suc (suc k))) → (k < 5) × (e ≡ delivery (chainBytes (given i k)) verdicts)
+met-in-slot e i k among =
+    lt-cases k 5
+    (λ less. (less, the-only e _ (subst (λ (β : Bool). Among e (pick β (delivery (chainBytes (given i k)) verdicts ∷ []) [])) (lt-ltb k 5 less) among)))
+    (λ more. absurd
+    (nowhere e (subst (λ (β : Bool). Among e (pick β (delivery (chainBytes (given i k)) verdicts ∷ []) [])) (le-ltb k 5 more) among)))
+
+delivered-bytes : (i slot : ℕ) (bytes v : List ℕ) → Among (delivery bytes v) (events i slot) → Bytes bytes
+unfolding bytesOf
+delivered-bytes i zero bytes v among = absurd (nowhere _ among)
+delivered-bytes i (suc zero) bytes v among = absurd (nowhere _ among)
+delivered-bytes i (suc (suc k)) bytes v among =
+    let (less, e) = met-in-slot (delivery bytes v) i k among in
+    subst Bytes (sym (ap bytesOf e)) (what-is-written-of-blocks-is-bytes (given i k) (given-good i k (omega arith) .fit))
+
+no-offer : {P : Type 0} (i slot : ℕ) (order : Order) → Among (offer order) (events i slot) → P
+unfolding isOffer
+no-offer i zero order among = absurd (nowhere _ among)
+no-offer i (suc zero) order among = absurd (nowhere _ among)
+no-offer i (suc (suc k)) order among = absurd (omega (arith, ap isOffer (met-in-slot (offer order) i k among .1)))
+
+typed : (i : ℕ) → Typed run i
+typed i = record {
+  buffer = buffer-bytes;
+  deliveries = delivered-bytes i;
+  events = λ slot order among. no-offer i slot order among;
+  offers = λ slot order among. absurd (nowhere order among);
+  signatures = λ slot. signed;
+  seals = λ slot. sealed;
+}
+
+verdicts-are-true : (i slot : ℕ) → (bytes v : List ℕ) → Among (delivery bytes v) (events i slot) → (before : List Parts) (p : Parts) (rest : List ℕ)
+    → bytes ≡ chainBytes (before ++ (p ∷ [])) ++ rest → Each Fits (before ++ (p ∷ [])) → getD v (length before) 0 ≡ 3
+unfolding bytesOf verdictsOf
+verdicts-are-true i zero bytes v among before p rest is fit = absurd (nowhere _ among)
+verdicts-are-true i (suc zero) bytes v among before p rest is fit = absurd (nowhere _ among)
+verdicts-are-true i (suc (suc k)) bytes v among before p rest is fit =
+    let (less, e) = met-in-slot (delivery bytes v) i k among in
+    let good = given-good i k (omega arith) in
+    let (others, whole) = bytes-at-the-front-are-blocks-at-the-front (given i k) (before ++ (p ∷ [])) rest (good .fit) fit (sym (ap bytesOf e) ∙ is) in
+    ap (λ (l : List ℕ). getD l (length before) 0) (ap verdictsOf e)
+    ∙ three (length before)
+    (omega (arith, good .long, ap length whole, length-append (before ++ (p ∷ [])) others, length-append before (p ∷ [])))
+
+-- ---- turns
+first-is-faulty : correct run (turn table 1) → ⊥
+first-is-faulty is-correct = eqb-false 1 1 (is-correct .2) refl
+
+reaches : (slot i : ℕ) → 1 ≤ slot → slot < 6 → correct run (turn table slot)
+    → (v : List ℕ) × Among (delivery (issued run slot) v) (events i (suc slot))
+reaches zero i low high good = absurd (omega arith)
+reaches (suc zero) i low high good = absurd (first-is-faulty good)
+reaches (suc (suc k)) i low high good =
+    (verdicts, ([], [], rw (lt-ltb (suc k) 5 (omega arith)) (ap (λ (l : List ℕ). delivery l verdicts ∷ []) (sym (issued-in-slot k (omega arith))))))
+
+-- ---- the blocks of the run
+-- bytes that are blocks of the two kinds
+record Known (bytes : List ℕ) : Type 0 where
+  blocks : List Parts
+  are : bytes ≡ chainBytes blocks
+  fit : Each Fits blocks
+  named : Each Named blocks
+
+none-held : (i : ℕ) → holds run i 1 ≡ []
+unfolding passed
+none-held i = refl
+
+of-good : (bytes : List ℕ) (k : ℕ) (blocks : List Parts) → Good k blocks → bytes ≡ chainBytes blocks → Known bytes
+of-good bytes k blocks good e = record { blocks = blocks; are = e; fit = good .fit; named = good .named }
+
+known : (i slot : ℕ) (bytes : List ℕ) → correct run i → InRun run slot → Meets run i slot bytes → Known bytes
+unfolding bytesOf
+known i zero bytes is-correct (low, high) meets = absurd (omega arith)
+known i (suc zero) bytes is-correct in-run (in-delivery v among) = absurd (nowhere _ among)
+known i (suc zero) bytes is-correct in-run (as-held e) = record { blocks = []; are = e ∙ none-held i; fit = tt; named = tt }
+known i (suc zero) bytes is-correct in-run (as-issued is-turn e) = absurd (eqb-false i 1 (is-correct .2) (sym is-turn))
+known i (suc (suc k)) bytes is-correct (low, high) (in-delivery v among) =
+    of-good bytes k (given i k) (given-good i k (omega arith)) (ap bytesOf (met-in-slot (delivery bytes v) i k among .1))
+known i (suc (suc k)) bytes is-correct (low, high) (as-held e) =
+    of-good bytes k (given i k) (given-good i k (omega arith)) (e ∙ held-in-slot i is-correct k (omega arith) .keeps .are)
+known i (suc (suc k)) bytes is-correct (low, high) (as-issued is-turn e) =
+    of-good bytes (suc k) (chain (suc k)) (chain-good (suc k) (omega arith)) (e ∙ issued-in-slot k (omega arith))
+
+named : (p : Parts) → OfRun run p → Named p
+named p of-run =
+    let it = known (of-run .controller) (of-run .slot) (of-run .chain) (of-run .is-correct) (of-run .in-run) (of-run .meets) in
+    let (others, whole) = bytes-at-the-front-are-blocks-at-the-front (it .blocks) (of-run .blocks) (of-run .rest) (it .fit) (of-run .fit)
+    (sym (it .are) ∙ of-run .are) in
+    at-it p Named (of-run .blocks) (each-parts Named (of-run .blocks) others (subst (Each Named) whole (it .named)) .0) (of-run .among)
+
+-- the one that is stamped with a correct controller's slot is the one that it issued
+the-issued-one : (p : Parts) → Named p → (slot : ℕ) → correct run (turn table slot) → slot ≤ 6 → p .slot ≡ slot → LastOf (issued run slot) p
+the-issued-one p (in-turn zero h) slot good high e = absurd (first-is-faulty (subst (λ (n : ℕ). correct run (turn table n)) (sym e) good))
+the-issued-one p (in-turn (suc k) h) slot good high e =
+    subst (λ (n : ℕ). LastOf (issued run n) (next (suc k))) e
+    (chain k, chain-good (suc k) h .fit, issued-in-slot k (omega arith))
+the-issued-one p forked slot good high e = absurd (first-is-faulty (subst (λ (n : ℕ). correct run (turn table n)) (sym e) good))
+
+-- bytes by a test that computes
+tested-bytes : (l : List ℕ) → every (λ b. ltb b 256) l ≡ true → Bytes l
+tested-bytes [] e = bytes-nil
+tested-bytes (b ∷ l) e =
+    let (here, rest) = both-true (ltb b 256) (every (λ b. ltb b 256) l) e in
+    bytes-cons b l (ltb-true b 256 here) (tested-bytes l rest)
+
+genesis-bytes : Bytes genesis
+unfolding genesis
+genesis-bytes = tested-bytes genesis refl
+
+few : howMany (run .faulty) 0 6 ≤ 1
+unfolding howMany
+few = omega arith
+
+pub premises : Premises run
+premises = record {
+  genesis = genesis-bytes;
+  reads = reads;
+  few = few;
+  ends = omega arith;
+  full = λ i is-correct. full;
+  typed = λ i is-correct. typed i;
+  reaches = λ slot i low high good is-correct another. reaches slot i low high good;
+  verdicts = λ i slot is-correct in-run bytes v among before p rest is fit.
+      (λ good. refl, λ good. verdicts-are-true i slot bytes v among before p rest is fit);
+  issued-verifies = λ slot in-run good p last. refl;
+  no-other = λ slot in-run good p of-run stamped verifies. the-issued-one p (named p of-run) slot good (in-run .1) stamped;
+  digests = λ p q of-run of-run′ e. one-digest-one-block p q (named p of-run) (named q of-run′) e;
+  not-the-genesis = λ p of-run e. not-the-genesis p (named p of-run) e;
+}

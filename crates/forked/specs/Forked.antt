@@ -1,0 +1,88 @@
+-- A run of six slots with a fork in it. Controller 1 of 6 is faulty and signs two blocks for slot 1. In slot 2 one of them reaches controllers 2
+-- and 3, the other one 4, 5 and 6. From then on each slot's controller issues a block behind the chain that it holds, and that chain reaches everybody
+-- in the next slot: those that held the other block drop it for the longer chain.
+-- Assumes nothing.
+use Prim.Native.Nat.{ℕ, zero, suc}
+use mathlib.Core.Bool.{Bool, true}
+use mathlib.Core.List.{List, [], _∷_, _++_}
+use lib.Dec.{ltb, leb, eqb}
+use lib.ListN.{replicate}
+use Rattle.laws.specs.Pick.{pick}
+use Rattle.genesis.specs.declared.Genesis.{Genesis}
+use Rattle.block.specs.Block.{Parts, blockBytes}
+use Rattle.chain.specs.Chain.{longest, linkOf}
+use Rattle.chain.specs.Blocks.{chainBytes}
+use Rattle.runs.specs.Runs.{Event, delivery, Run}
+
+-- n = 6, t = 1 and u = 1, every release 0, and six keys
+unfoldable pub genesis : List ℕ
+genesis =
+    (6 ∷ 1 ∷ 1 ∷ [])
+    ++ (replicate 64 0 ++ (replicate 32 1 ++ (replicate 32 2 ++ (replicate 32 3 ++ (replicate 32 4 ++ (replicate 32 5 ++ replicate 32 6))))))
+
+abbrev pub table : Genesis
+table = record { n = 6; t = 1; u = 1; releases = replicate 64 0; keys = 67 }
+
+-- the signatures that stand in every block of the run, but for the other block's last one
+unfoldable pub signature : List ℕ
+signature = replicate 64 1
+
+unfoldable pub seal : List ℕ
+seal = replicate 64 2
+
+unfoldable pub otherSeal : List ℕ
+otherSeal = replicate 64 3
+
+-- ---- the blocks
+-- a block without orders
+abbrev pub block : (link : List ℕ) (slot : ℕ) (seal : List ℕ) → Parts
+block link slot s = record { link = link; orders = []; slot = slot; slotSignature = signature; blockSignature = s }
+
+-- the link that the block of slot k + 1 carries
+unfoldable pub link : ℕ → List ℕ
+link zero = linkOf genesis
+link (suc k) = linkOf (blockBytes (block (link k) (suc k) seal))
+
+abbrev pub next : ℕ → Parts
+next k = block (link k) (suc k) seal
+
+-- the other block that was signed for slot 1
+abbrev pub other : Parts
+other = block (link 0) 1 otherSeal
+
+-- the chain of slots 1 to k + 1
+abbrev pub chain : ℕ → List Parts
+chain zero = next 0 ∷ []
+chain (suc k) = chain k ++ (next (suc k) ∷ [])
+
+-- ---- the run
+-- what reaches a controller in slot k + 2
+abbrev pub given : (controller k : ℕ) → List Parts
+given i zero = pick (leb i 3) (chain 0) (other ∷ [])
+given i (suc k) = chain (suc k)
+
+unfoldable pub verdicts : List ℕ
+verdicts = replicate 256 3
+
+abbrev pub events : (controller slot : ℕ) → List Event
+events i zero = []
+events i (suc zero) = []
+events i (suc (suc k)) = pick (ltb k 5) (delivery (chainBytes (given i k)) verdicts ∷ []) []
+
+unfoldable pub buffer : List ℕ
+buffer = replicate longest 0
+
+abbrev pub run : Run
+run = record {
+  genesis = genesis;
+  table = table;
+  end = 6;
+  faulty = λ i. eqb i 1;
+  lent = λ i. buffer;
+  events = events;
+  offers = λ i slot. [];
+  signature = λ i slot. signature;
+  seal = λ i slot. seal;
+  -- no block of the run is badly signed
+  verifies = λ p. true;
+}
