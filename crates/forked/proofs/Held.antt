@@ -24,12 +24,12 @@ use Rattle.chain.specs.declared.Opened.{Opened}
 use Rattle.chain.specs.declared.Standing.{Standing}
 use Rattle.chain.specs.declared.Summary.{Summary}
 use Rattle.chain.proofs.Theorems.{blocks-that-follow-and-are-admitted-are-accepted, the-bytes-tell-the-blocks, what-is-written-of-blocks-is-bytes}
-use Rattle.pool.specs.Pool.{poolOf, taking}
+use Rattle.pool.specs.Pool.{room, poolOf, taking}
 use Rattle.pool.specs.declared.Pool.{Pool}
 use Rattle.issue.specs.Issue.{taken}
-use Rattle.runs.specs.Runs.{Node, heldBytes, delivery, meets, issues, correct, passed, inSlot, issued, afterIssuing}
+use Rattle.runs.specs.Runs.{Node, heldBytes, delivery, afterEvent, issues, correct, afterSlot, inSlot, issued, afterIssuing}
 use Rattle.runs.proofs.Nodes.{opening, Keeps, keeps-later, From, stayed, replaced, Met, met-delivery}
-use Rattle.runs.proofs.Pools.{Pooled, pooled-none}
+use Rattle.runs.proofs.Pools.{Pooled, each-zeros, pooled-none}
 use Rattle.runs.proofs.Issuing as issuing
 use Rattle.forked.specs.Forked.{genesis, table, signature, seal, link, next, other, chain, given, verdicts, buffer, run}
 use Rattle.forked.proofs.Blocks.{filled, signed, sealed, start, Stands, stands, Good, chain-good, given-good}
@@ -70,7 +70,7 @@ admits clock count (p ∷ rest) (low, below) few =
 -- a delivery of good blocks: it holds them then, if it held them before or fewer
 module _ (k : ℕ) (few : k < 6) (s : Node) (blocks others : List Parts) (st : State (suc (suc k)) s blocks) (good : Good k others)
     (full : suc k ≤ length blocks → blocks ≡ others) where
-  met : Met genesis table (suc (suc k)) (meets genesis (suc (suc k)) s (delivery (chainBytes others) verdicts)) blocks (chainBytes others) verdicts
+  met : Met genesis table (suc (suc k)) (afterEvent genesis (suc (suc k)) s (delivery (chainBytes others) verdicts)) blocks (chainBytes others) verdicts
   met =
       met-delivery genesis table reads (suc (suc k)) (omega arith) (omega arith) s blocks (chainBytes others) verdicts
       (what-is-written-of-blocks-is-bytes others (good .fit)) (st .keeps)
@@ -87,11 +87,11 @@ module _ (k : ℕ) (few : k < 6) (s : Node) (blocks others : List Parts) (st : S
   held-now now stayed h = full (omega (arith, good .long))
   held-now now (replaced d others′ is a) h = the-bytes-tell-the-blocks others′ others (a .fits) (good .fit) (sym is)
 
-  pub delivered-state : State (suc (suc k)) (meets genesis (suc (suc k)) s (delivery (chainBytes others) verdicts)) others
+  pub delivered-state : State (suc (suc k)) (afterEvent genesis (suc (suc k)) s (delivery (chainBytes others) verdicts)) others
   delivered-state = record {
     keeps = subst
-        (λ (l : List Parts). Keeps genesis table (suc (suc k)) (meets genesis (suc (suc k)) s (delivery (chainBytes others) verdicts) .buffer)
-        (meets genesis (suc (suc k)) s (delivery (chainBytes others) verdicts) .size) l)
+        (λ (l : List Parts). Keeps genesis table (suc (suc k)) (afterEvent genesis (suc (suc k)) s (delivery (chainBytes others) verdicts) .buffer)
+        (afterEvent genesis (suc (suc k)) s (delivery (chainBytes others) verdicts) .size) l)
         (held-now (met .now-held) (met .from) long) (met .keeps);
     pool = st .pool;
   }
@@ -108,7 +108,7 @@ module _ (k : ℕ) (few : k < 5) (s : Node) (st : State (suc (suc k)) s (chain k
     low = omega arith;
     high = omega arith;
     keeps = st .keeps;
-    pooled = subst (Pooled (suc (suc k))) (sym (st .pool)) (pooled-none (suc (suc k)));
+    pooled = subst (Pooled (suc (suc k))) (sym (st .pool)) (pooled-none (suc (suc k)) (poolOf []) refl (each-zeros room));
     controller = suc (suc k);
     known = within-here 1 6 (suc (suc k)) (omega arith) (omega arith);
     is-turn = turn-is k few;
@@ -161,8 +161,8 @@ started = record {
   pool = refl;
 }
 
-first-passed : (i : ℕ) → correct run i → Between i 0 (passed run i 1)
-unfolding passed
+first-passed : (i : ℕ) → correct run i → Between i 0 (afterSlot run i 1)
+unfolding afterSlot
 first-passed i is-correct = by-turn (eqb 1 i) refl
   where
     by-turn : (β : Bool) → eqb 1 i ≡ β
@@ -171,20 +171,20 @@ first-passed i is-correct = by-turn (eqb 1 i) refl
     by-turn true e = absurd (eqb-false i 1 (is-correct .2) (sym (eqb-true 1 i e)))
     by-turn false e = record { blocks = []; state = state-later 1 2 _ [] (omega arith) started; full = λ h. absurd (omega arith) }
 
-held-next : (i k : ℕ) → k < 5 → Between i k (passed run i (suc k)) → State (suc (suc k)) (inSlot run i (suc (suc k))) (given i k)
+held-next : (i k : ℕ) → k < 5 → Between i k (afterSlot run i (suc k)) → State (suc (suc k)) (inSlot run i (suc (suc k))) (given i k)
 held-next i k h before =
     subst
     (λ (β : Bool). State (suc (suc k))
-    (folded (meets genesis (suc (suc k))) (passed run i (suc k)) (pick β (delivery (chainBytes (given i k)) verdicts ∷ []) [])) (given i k))
+    (folded (afterEvent genesis (suc (suc k))) (afterSlot run i (suc k)) (pick β (delivery (chainBytes (given i k)) verdicts ∷ []) [])) (given i k))
     (sym (lt-ltb k 5 h))
-    (delivered-state k (omega arith) (passed run i (suc k)) (before .blocks) (given i k) (before .state) (given-good i k (omega arith)) (before .full))
+    (delivered-state k (omega arith) (afterSlot run i (suc k)) (before .blocks) (given i k) (before .state) (given-good i k (omega arith)) (before .full))
 
 given-in-turn : (k : ℕ) → given (suc (suc k)) k ≡ chain k
 given-in-turn zero = refl
 given-in-turn (suc k) = refl
 
-next-passed : (i k : ℕ) → k < 5 → State (suc (suc k)) (inSlot run i (suc (suc k))) (given i k) → Between i (suc k) (passed run i (suc (suc k)))
-unfolding passed
+next-passed : (i k : ℕ) → k < 5 → State (suc (suc k)) (inSlot run i (suc (suc k))) (given i k) → Between i (suc k) (afterSlot run i (suc (suc k)))
+unfolding afterSlot
 next-passed i k h st = by-turn (eqb (turn table (suc (suc k))) i) refl
   where
     by-turn : (β : Bool) → eqb (turn table (suc (suc k))) i ≡ β
@@ -205,7 +205,7 @@ next-passed i k h st = by-turn (eqb (turn table (suc (suc k))) i) refl
       full = λ long. absurd (omega (arith, given-good i k (omega arith) .long));
     }
 
-between : (i : ℕ) → correct run i → (k : ℕ) → k < 6 → Between i k (passed run i (suc k))
+between : (i : ℕ) → correct run i → (k : ℕ) → k < 6 → Between i k (afterSlot run i (suc k))
 between i is-correct zero h = first-passed i is-correct
 between i is-correct (suc k) h = next-passed i k (omega arith) (held-next i k (omega arith) (between i is-correct k (omega arith)))
 

@@ -21,7 +21,9 @@ use Rattle.block.specs.Block.{Parts, Fits}
 use Rattle.chain.specs.Blocks.{chainBytes}
 use Rattle.chain.proofs.Theorems.{what-is-written-of-blocks-is-bytes, bytes-at-the-front-are-blocks-at-the-front}
 use Rattle.agreement.specs.Core.{howMany}
-use Rattle.runs.specs.Runs.{Event, delivery, offer, correct, passed, holds, issued, Among, Meets, in-delivery, as-held, as-issued, InRun, OfRun, Typed, LastOf, Premises}
+use Rattle.pool.specs.Pool.{room}
+use Rattle.runs.proofs.Pools.{each-zeros}
+use Rattle.runs.specs.Runs.{Event, delivery, offer, correct, afterSlot, holds, issued, Among, Encounter, in-delivery, as-held, as-issued, InRun, OfRun, Typed, LastOf, Premises}
 use Rattle.forked.specs.Forked.{genesis, table, next, other, chain, given, verdicts, events, run}
 use Rattle.forked.proofs.Blocks.{signed, sealed, Named, in-turn, forked, Good, chain-good, given-good}
 use Rattle.forked.proofs.Held.{reads, full, buffer-bytes, three, held-in-slot, issued-in-slot}
@@ -82,11 +84,12 @@ no-offer i (suc (suc k)) order among = absurd (omega (arith, ap isOffer (met-in-
 typed : (i : ℕ) → Typed run i
 typed i = record {
   buffer = buffer-bytes;
-  deliveries = delivered-bytes i;
-  events = λ slot order among. no-offer i slot order among;
-  offers = λ slot order among. absurd (nowhere order among);
-  signatures = λ slot. signed;
-  seals = λ slot. sealed;
+  pool = each-zeros room;
+  deliveries = λ slot in-run. delivered-bytes i slot;
+  events = λ slot in-run order among. no-offer i slot order among;
+  offers = λ slot in-run order among. absurd (nowhere order among);
+  signatures = λ slot in-run is-turn. signed;
+  seals = λ slot in-run is-turn. sealed;
 }
 
 verdicts-are-true : (i slot : ℕ) → (bytes v : List ℕ) → Among (delivery bytes v) (events i slot) → (before : List Parts) (p : Parts) (rest : List ℕ)
@@ -122,15 +125,15 @@ record Known (bytes : List ℕ) : Type 0 where
   named : Each Named blocks
 
 none-held : (i : ℕ) → holds run i 1 ≡ []
-unfolding passed
+unfolding afterSlot
 none-held i = refl
 
 of-good : (bytes : List ℕ) (k : ℕ) (blocks : List Parts) → Good k blocks → bytes ≡ chainBytes blocks → Known bytes
 of-good bytes k blocks good e = record { blocks = blocks; are = e; fit = good .fit; named = good .named }
 
-known : (i slot : ℕ) (bytes : List ℕ) → correct run i → InRun run slot → Meets run i slot bytes → Known bytes
+known : (i slot : ℕ) (bytes : List ℕ) → correct run i → InRun run slot → Encounter run i slot bytes → Known bytes
 unfolding bytesOf
-known i zero bytes is-correct (low, high) meets = absurd (omega arith)
+known i zero bytes is-correct (low, high) afterEvent = absurd (omega arith)
 known i (suc zero) bytes is-correct in-run (in-delivery v among) = absurd (nowhere _ among)
 known i (suc zero) bytes is-correct in-run (as-held e) = record { blocks = []; are = e ∙ none-held i; fit = tt; named = tt }
 known i (suc zero) bytes is-correct in-run (as-issued is-turn e) = absurd (eqb-false i 1 (is-correct .2) (sym is-turn))
@@ -143,7 +146,7 @@ known i (suc (suc k)) bytes is-correct (low, high) (as-issued is-turn e) =
 
 named : (p : Parts) → OfRun run p → Named p
 named p of-run =
-    let it = known (of-run .controller) (of-run .slot) (of-run .chain) (of-run .is-correct) (of-run .in-run) (of-run .meets) in
+    let it = known (of-run .controller) (of-run .slot) (of-run .chain) (of-run .is-correct) (of-run .in-run) (of-run .encounter) in
     let (others, whole) = bytes-at-the-front-are-blocks-at-the-front (it .blocks) (of-run .blocks) (of-run .rest) (it .fit) (of-run .fit)
     (sym (it .are) ∙ of-run .are) in
     at-it p Named (of-run .blocks) (each-parts Named (of-run .blocks) others (subst (Each Named) whole (it .named)) .0) (of-run .among)
@@ -178,6 +181,7 @@ premises = record {
   few = few;
   ends = omega arith;
   full = λ i is-correct. full;
+  no-orders = λ i is-correct. refl;
   typed = λ i is-correct. typed i;
   reaches = λ slot i low high good is-correct another. reaches slot i low high good;
   verdicts = λ i slot is-correct in-run bytes v among before p rest is fit.

@@ -12,6 +12,7 @@ use Rattle.genesis.specs.declared.Genesis.{Genesis}
 use Rattle.block.specs.Block.{Parts, blockBytes}
 use Rattle.chain.specs.Chain.{longest, linkOf}
 use Rattle.chain.specs.Blocks.{chainBytes}
+use Rattle.pool.specs.Pool.{poolOf}
 use Rattle.runs.specs.Runs.{Event, delivery, Run}
 
 -- n = 6, t = 1 and u = 1, every release 0, and six keys
@@ -79,6 +80,7 @@ run = record {
   end = 6;
   faulty = λ i. eqb i 1;
   lent = λ i. buffer;
+  pools = λ i. poolOf [];
   events = events;
   offers = λ i slot. [];
   signature = λ i slot. signature;

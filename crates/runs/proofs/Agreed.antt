@@ -1,6 +1,6 @@
 -- A run that meets the premises keeps the laws of the argument, and what its correct controllers report is what the argument speaks of.
 -- Assumes nothing.
-use Prim.Native.Nat.{ℕ, _+_, _-_, _*_, _≤_}
+use Prim.Native.Nat.{ℕ, _+_, _-_, _≤_}
 use mathlib.Core.Path.{_≡_, refl, sym, ap, _∙_, subst}
 use mathlib.Core.Bool.{true, not}
 use mathlib.Core.List.{List, [], _∷_, _++_}
@@ -11,7 +11,7 @@ use Rattle.laws.specs.Told.{gives}
 use Rattle.laws.proofs.Told.{gives-same}
 use Rattle.laws.proofs.Every.{within-true}
 use Rattle.laws.proofs.Each.{each-parts}
-use Rattle.genesis.specs.Genesis.{turn}
+use Rattle.genesis.specs.Genesis.{turn, depth}
 use Rattle.genesis.proofs.Sound.{sound}
 use Rattle.block.specs.Block.{Parts, Fits}
 use Rattle.chain.specs.Chain.{held, none, settles}
@@ -19,8 +19,8 @@ use Rattle.chain.specs.Blocks.{chainBytes, followed, settledOf}
 use Rattle.chain.specs.declared.Standing.{Standing}
 use Rattle.chain.proofs.Theorems.{the-bytes-tell-the-blocks, the-settled-bytes-are-the-settled-blocks}
 use Rattle.report.specs.Report.{Report, reportOf}
-use Rattle.agreement.specs.Core.{depthFor, Turns, settled, Viable, Issue, Laws}
-use Rattle.runs.specs.Runs.{Run, correct, inSlot, holds, reports, issued, InRun, OfRun, Premises}
+use Rattle.agreement.specs.Core.{Turns, settled, Viable, Issue, Laws}
+use Rattle.runs.specs.Runs.{Run, correct, inSlot, holds, reports, issued, InRun, OfRun, LastOf, Premises}
 use Rattle.runs.proofs.Nodes.{opening, keeps-later, held-there, opens}
 use Rattle.runs.proofs.Valid.{Valid, setting, blocksIn, none-valid, front-valid, valid-rises}
 use Rattle.runs.proofs.Linked.{linked}
@@ -29,6 +29,14 @@ use Rattle.runs.proofs.Slots.{turn-is, good-is-correct, issued-blocks, 
 
 module _ (r : Run) (premises : Premises r) where
   -- ---- the laws
+  -- a block that was issued last
+  last-issued : (slot : ℕ) → InRun r slot → correct r (turn (r .table) slot) → (p : Parts) → LastOf (issued r slot) p
+      → (w : List Parts) × (blocksIn (issued r slot) ≡ w ++ (p ∷ []))
+  last-issued slot in-run is-correct p (before, fit, is) =
+      let it = issued-at r premises slot in-run is-correct in
+      let same = the-bytes-tell-the-blocks (it .before ++ (it .block ∷ [])) (before ++ (p ∷ [])) (it .valid .fits) fit (sym (it .is) ∙ is) in
+      (before, issued-blocks r premises slot it ∙ same)
+
   one-block : (u v : List Parts) (b : Parts) → Valid r (u ++ b ∷ v) → not (r .faulty (turn (r .table) (b .slot))) ≡ true → b .slot ≤ r .end
       → (w : List Parts) × (blocksIn (issued r (b .slot)) ≡ w ++ (b ∷ []))
   one-block u v b c good inside =
@@ -37,10 +45,7 @@ module _ (r : Run) (premises : Premises r) where
       let (verifies, _) = each-parts (λ p. r .verifies p ≡ true) u (b ∷ v) (c .verify) .1 in
       let in-run : InRun r (b .slot) = (within-true 1 256 (b .slot) (fits .slot) .0, inside) in
       let is-correct = good-is-correct r premises (b .slot) good in
-      let (before, fit, is) = premises .no-other (b .slot) in-run is-correct b of-run refl verifies in
-      let it = issued-at r premises (b .slot) in-run is-correct in
-      let same = the-bytes-tell-the-blocks (it .before ++ (it .block ∷ [])) (before ++ (b ∷ [])) (it .valid .fits) fit (sym (it .is) ∙ is) in
-      (before, issued-blocks r premises (b .slot) it ∙ same)
+      last-issued (b .slot) in-run is-correct b (premises .no-other (b .slot) in-run is-correct b of-run refl verifies)
 
   issue-of : (slot : ℕ) → not (r .faulty (turn (r .table) slot)) ≡ true → 1 ≤ slot → slot ≤ r .end → Issue (setting r) slot
   issue-of slot good low high =
@@ -73,7 +78,7 @@ module _ (r : Run) (premises : Premises r) where
 
   -- ---- a correct controller in a slot
   settled-same : (slot : ℕ) (blocks : List Parts)
-      → settled (setting r) (depthFor (r .table .t)) slot blocks ≡ settledOf (opening (r .genesis) (r .table) slot) blocks
+      → settled (setting r) (depth (r .table)) slot blocks ≡ settledOf (opening (r .genesis) (r .table) slot) blocks
   unfolding settled
   settled-same slot [] = refl
   settled-same slot (p ∷ rest) =
@@ -85,9 +90,9 @@ module _ (r : Run) (premises : Premises r) where
     pub viable : Viable (setting r) slot blocks
     pub are : holds r i slot ≡ chainBytes blocks
     pub counts : a .held ≡ length blocks
-    pub bytes : take (a .length) (holds r i slot) ≡ chainBytes (settled (setting r) (depthFor (r .table .t)) slot blocks)
+    pub bytes : take (a .length) (holds r i slot) ≡ chainBytes (settled (setting r) (depth (r .table)) slot blocks)
     pub last : Standing
-    pub follows : followed (none (opening (r .genesis) (r .table) 0)) (settled (setting r) (depthFor (r .table .t)) slot blocks) ≡ gives last
+    pub follows : followed (none (opening (r .genesis) (r .table) 0)) (settled (setting r) (depth (r .table)) slot blocks) ≡ gives last
     pub settled-count : a .settled ≡ last .count .0
     pub settled-length : a .length ≡ last .length
     pub settled-releases : a .releases ≡ last .releases

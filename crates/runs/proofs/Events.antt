@@ -22,8 +22,7 @@ use Rattle.chain.specs.Blocks.{chainBytes, Admits, Accepted, Below}
 use Rattle.chain.specs.declared.Summary.{Summary}
 use Rattle.chain.proofs.Accepted.{admits-front}
 use Rattle.chain.proofs.Theorems.{blocks-that-follow-and-are-admitted-are-accepted, the-bytes-tell-the-blocks}
-use Rattle.adopt.specs.Adopt.{accepted}
-use Rattle.runs.specs.Runs.{Node, Event, delivery, offer, meets, Run, correct, Among, in-delivery, InRun, OfRun, Premises}
+use Rattle.runs.specs.Runs.{adopts, AdoptedOrEqualled, Node, Event, delivery, offer, afterEvent, Run, correct, Among, in-delivery, InRun, OfRun, Premises}
 use Rattle.runs.proofs.Nodes.{opening, Keeps, From, stayed, replaced, Met, met-delivery, good-answer}
 use Rattle.runs.proofs.Pools.{Pooled, pooled-offer}
 use Rattle.runs.proofs.Valid.{Valid}
@@ -99,7 +98,7 @@ module _ (r : Run) where
         slot = slot;
         in-run = in-run;
         chain = bytes;
-        meets = in-delivery verdicts among;
+        encounter = in-delivery verdicts among;
         blocks = blocks;
         rest = [];
         are = is ∙ sym (append-nil (chainBytes blocks));
@@ -129,10 +128,10 @@ module _ (r : Run) where
 
     module _ (s : Node) (blocks : List Parts) (f : Fine slot slot s blocks) where
       module _ (bytes verdicts : List ℕ) (among : Among (delivery bytes verdicts) (r .events i slot)) where
-        met : Met (r .genesis) (r .table) slot (meets (r .genesis) slot s (delivery bytes verdicts)) blocks bytes verdicts
+        met : Met (r .genesis) (r .table) slot (afterEvent (r .genesis) slot s (delivery bytes verdicts)) blocks bytes verdicts
         met =
             met-delivery (r .genesis) (r .table) (premises .reads) slot (in-run .0) high s blocks bytes verdicts
-            (premises .typed i is-correct .deliveries slot bytes verdicts among) (f .keeps)
+            (premises .typed i is-correct .deliveries slot in-run bytes verdicts among) (f .keeps)
 
         from-fine : (now-held : List Parts) → From (opening (r .genesis) (r .table) slot) blocks bytes verdicts now-held
             → Each (OfRun r) now-held × Each (λ p. r .verifies p ≡ true) now-held
@@ -140,7 +139,7 @@ module _ (r : Run) where
         from-fine now-held (replaced d others is a) =
             (delivered-of-run bytes verdicts among others is (a .fits), delivered-verify bytes verdicts among others is (a .fits) (a .admits))
 
-        delivery-fine : Grown (meets (r .genesis) slot s (delivery bytes verdicts)) blocks
+        delivery-fine : Grown (afterEvent (r .genesis) slot s (delivery bytes verdicts)) blocks
         delivery-fine =
             let (of-run, verify) = from-fine (met .now-held) (met .from) in
             record { more = met .now-held; fine = record { keeps = met .keeps; pooled = f .pooled; of-run = of-run; verify = verify }; grown = met .grown }
@@ -159,19 +158,18 @@ module _ (r : Run) where
           unfolding delivery-fine
           delivery-long = met .long others (good .0) is (good .1)
 
-          pub delivery-answer : accepted (r .genesis) slot (s .buffer) (s .size) bytes verdicts
-              ≡ unless (ltb (length blocks) (length others)) 11 0 (gives (length others))
+          pub delivery-answer : AdoptedOrEqualled bytes (adopts (r .genesis) slot s bytes verdicts)
           delivery-answer =
               good-answer (r .genesis) (r .table) (premises .reads) slot (in-run .0) high s blocks bytes verdicts
-              (premises .typed i is-correct .deliveries slot bytes verdicts among) (f .keeps) others (good .0) is (good .1)
+              (premises .typed i is-correct .deliveries slot in-run bytes verdicts among) (f .keeps) others (good .0) is (good .1)
 
-      meets-fine : (e : Event) → Among e (r .events i slot) → Grown (meets (r .genesis) slot s e) blocks
+      meets-fine : (e : Event) → Among e (r .events i slot) → Grown (afterEvent (r .genesis) slot s e) blocks
       meets-fine (delivery bytes verdicts) among = delivery-fine bytes verdicts among
       meets-fine (offer order) among = record {
         more = blocks;
         fine = record {
           keeps = f .keeps;
-          pooled = pooled-offer (r .genesis) slot (s .buffer) (s .size) (s .pool) order (premises .typed i is-correct .events slot order among) (f .pooled);
+          pooled = pooled-offer (r .genesis) slot (s .buffer) (s .size) (s .pool) order (premises .typed i is-correct .events slot in-run order among) (f .pooled);
           of-run = f .of-run;
           verify = f .verify;
         };
@@ -179,11 +177,11 @@ module _ (r : Run) where
       }
 
     pub events-fine : (before middle after : List Event) → r .events i slot ≡ before ++ (middle ++ after) → (s : Node) (blocks : List Parts)
-        → Fine slot slot s blocks → Grown (folded (meets (r .genesis) slot) s middle) blocks
+        → Fine slot slot s blocks → Grown (folded (afterEvent (r .genesis) slot) s middle) blocks
     events-fine before [] after e s blocks f = record { more = blocks; fine = f; grown = omega arith }
     events-fine before (x ∷ middle) after e s blocks f =
         let g = meets-fine s blocks f x (before, middle ++ after, e) in
-        let g′ = events-fine (before ++ (x ∷ [])) middle after (e ∙ sym (append-assoc before (x ∷ []) (middle ++ after))) (meets (r .genesis) slot s x)
+        let g′ = events-fine (before ++ (x ∷ [])) middle after (e ∙ sym (append-assoc before (x ∷ []) (middle ++ after))) (afterEvent (r .genesis) slot s x)
         (g .more) (g .fine) in
         record { more = g′ .more; fine = g′ .fine; grown = omega (arith, g .grown, g′ .grown) }
 
@@ -191,10 +189,10 @@ module _ (r : Run) where
     pub delivered-is-held : (b a : List Event) (bytes verdicts : List ℕ) → r .events i slot ≡ b ++ delivery bytes verdicts ∷ a
         → (s : Node) (blocks : List Parts) → Fine slot slot s blocks
         → (others : List Parts) → bytes ≡ chainBytes others → Valid r others → Below slot others
-        → (last : List Parts) → Fine slot slot (folded (meets (r .genesis) slot) s (r .events i slot)) last → length others ≤ length last
+        → (last : List Parts) → Fine slot slot (folded (afterEvent (r .genesis) slot) s (r .events i slot)) last → length others ≤ length last
     delivered-is-held b a bytes verdicts e s blocks f others is c below last at-end =
         let x = delivery bytes verdicts in
-        let step = meets (r .genesis) slot in
+        let step = afterEvent (r .genesis) slot in
         let g = events-fine [] b (x ∷ a) e s blocks f in
         let m = delivery-fine (folded step s b) (g .more) (g .fine) bytes verdicts (b, a, e) in
         let few = delivery-long (folded step s b) (g .more) (g .fine) bytes verdicts (b, a, e) others is c below in

@@ -1,9 +1,10 @@
 -- One controller between calls: the blocks that it keeps while chains are delivered to it.
 -- Assumes nothing.
 use Prim.Native.Nat.{ℕ, _+_, _≤_}
-use mathlib.Core.Path.{_≡_, refl, sym, ap, ap₂, _∙_, subst}
+use mathlib.Core.Path.{_≡_, refl, sym, ap, _∙_, subst}
 use mathlib.Core.Bool.{Bool, true, false}
 use mathlib.Core.List.{List}
+use native.Mathlib.Nat.{zero-add}
 use native.Mathlib.Omega.{arith}
 use lib.Dec.{ltb}
 use lib.ListN.{length, take}
@@ -26,7 +27,7 @@ use Rattle.chain.specs.declared.Summary.{Summary}
 use Rattle.chain.proofs.Clocks.{admits-held, admits-below}
 use Rattle.chain.proofs.Theorems.{blocks-that-follow-and-are-admitted-are-accepted, accepted-blocks-may-be-held, accepted-blocks-may-be-delivered, a-delivered-chain-is-accepted-blocks, the-count-is-the-number-of-blocks, at-most-64256-bytes}
 use Rattle.adopt.specs.Adopt.{longer, accepted, adopted, adopting}
-use Rattle.runs.specs.Runs.{Node, delivery, sizeOr, meets}
+use Rattle.runs.specs.Runs.{Node, delivery, sizeOr, afterEvent, adopts, AdoptedOrEqualled, adopted-now, equalled}
 
 -- what the calls are opened with in a slot
 abbrev pub opening : List ℕ → Genesis → ℕ → Opened
@@ -183,17 +184,25 @@ module _ (genesis : List ℕ) (table : Genesis) where
               (sym e ∙ ap (λ (l : List ℕ). deliveredChain o l verdicts) is ∙ accepted-blocks-may-be-delivered o d verdicts others a);
         }
 
-        -- a good chain is answered by its count, or by 11
+        -- a good chain is adopted if it has more blocks than are held, else it is 11
         pub good-answer : (others : List Parts) (d : Summary) → bytes ≡ chainBytes others → Accepted o (delivered verdicts) others d
-            → accepted genesis clock (s .buffer) (s .size) bytes verdicts
-            ≡ unless (ltb (length blocks) (length others)) 11 0 (gives (length others))
+            → AdoptedOrEqualled bytes (adopts genesis clock s bytes verdicts)
         good-answer others d is a =
-            judged-is
-            ∙ ap (longer (h .summary .whole .count .0))
-            (ap (λ (l : List ℕ). deliveredChain o l verdicts) is ∙ accepted-blocks-may-be-delivered o d verdicts others a)
-            ∙ ap₂ (λ (m n : ℕ). unless (ltb m n) 11 0 (gives n)) (h .count) (the-count-is-the-number-of-blocks o (delivered verdicts) others d a)
+            let few : 0 + length bytes ≤ length (s .buffer) = omega (arith, k .room, ap length is, at-most-64256-bytes o (delivered verdicts) others d a) in
+            let checks = ap (λ (l : List ℕ). deliveredChain o l verdicts) is ∙ accepted-blocks-may-be-delivered o d verdicts others a in
+            let answer = judged-is ∙ ap (longer (h .summary .whole .count .0)) checks in
+            subst (λ (t : Told ℕ). AdoptedOrEqualled bytes (adopted t (s .buffer) bytes)) (sym answer)
+            (by-test (sym (with-room (s .buffer) 0 bytes few .0)) (ltb (h .summary .whole .count .0) (d .whole .count .0)) (d .whole .count .0))
+          where
+            by-test : placed (s .buffer) 0 bytes ≡ gives (0 + length bytes) → (β : Bool) (count : ℕ)
+                → AdoptedOrEqualled bytes (adopted (unless β 11 0 (gives count)) (s .buffer) bytes)
+            by-test fits true count =
+                subst (AdoptedOrEqualled bytes)
+                (sym (ap (λ (t : Told ℕ). then t λ size. gives (size, count)) (fits ∙ ap gives (zero-add (length bytes)))))
+                (adopted-now count)
+            by-test fits false count = equalled
 
-        pub met-delivery : Met clock (meets genesis clock s (delivery bytes verdicts)) blocks bytes verdicts
+        pub met-delivery : Met clock (afterEvent genesis clock s (delivery bytes verdicts)) blocks bytes verdicts
         met-delivery =
             subst (λ (t : Told ℕ). Met clock (answered t) blocks bytes verdicts) (sym judged-is)
             (by-answer (deliveredChain o bytes verdicts) refl)

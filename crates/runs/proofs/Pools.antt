@@ -36,7 +36,7 @@ module _ {A : Type 0} (test : A → Bool) where
   each-every [] each = refl
   each-every (a ∷ l) (here, rest) = rw here (each-every l rest)
 
-abbrev Written : Entry → Type 0
+abbrev pub Written : Entry → Type 0
 Written e = Writable (e .order)
 
 -- a pool that meets no 18, of orders that can be written
@@ -44,12 +44,12 @@ pub record Pooled (clock : ℕ) (pool : Pool) : Type 0 where
   pub fits : poolFits clock pool ≡ true
   pub releases : Each Written (pool .entries)
 
-each-zeros : (n : ℕ) → Each Written (replicate n noEntry)
+pub each-zeros : (n : ℕ) → Each Written (replicate n noEntry)
 each-zeros zero = tt
 each-zeros (suc n) = ((zero-le, zero-le), each-zeros n)
 
-pub pooled-none : (clock : ℕ) → Pooled clock (poolOf [])
-pooled-none clock = record { fits = refl; releases = each-zeros room }
+pub pooled-none : (clock : ℕ) (pool : Pool) → pool .count ≡ 0 → Each Written (pool .entries) → Pooled clock pool
+pooled-none clock pool none written = record { fits = rw none; releases = written }
 
 entry-later : (clock clock′ : ℕ) → clock ≤ clock′ → (e : Entry) → entryFits clock e ≡ true → entryFits clock′ e ≡ true
 entry-later clock clock′ h e fits =

@@ -1,6 +1,6 @@
 -- What correct controllers report: the argument's settled lists, as bytes and releases.
 -- Assumes nothing.
-use Prim.Native.Nat.{ℕ, suc, _+_, _-_, _*_, _≤_}
+use Prim.Native.Nat.{ℕ, suc, _+_, _-_, _≤_}
 use mathlib.Core.Path.{_≡_, refl, sym, ap, _∙_, subst}
 use mathlib.Core.Bool.{true, not}
 use mathlib.Core.List.{List, _++_}
@@ -9,14 +9,14 @@ use lib.ListN.{length, take, getD}
 use Rattle.laws.specs.Told.{gives}
 use Rattle.laws.proofs.Told.{gives-same, then-gives}
 use Rattle.laws.proofs.Taken.{joined-append}
-use Rattle.genesis.specs.Genesis.{turn}
+use Rattle.genesis.specs.Genesis.{turn, depth}
 use Rattle.block.specs.Block.{Parts, blockBytes}
 use Rattle.chain.specs.Chain.{none}
 use Rattle.chain.specs.Blocks.{chainBytes, followed, NoneFell}
 use Rattle.chain.specs.declared.Standing.{Standing}
 use Rattle.chain.proofs.Theorems.{the-bytes-tell-the-blocks, blocks-follow-part-by-part, no-release-falls}
 use Rattle.report.specs.Report.{Report}
-use Rattle.agreement.specs.Core.{depthFor, howMany, Windows, Begins, settled}
+use Rattle.agreement.specs.Core.{howMany, Windows, Begins, settled}
 use Rattle.agreement.proofs.Theorems as argument
 use Rattle.runs.specs.Runs.{appends, Run, correct, inSlot, holds, reports, InRun, Premises}
 use Rattle.runs.proofs.Nodes.{opening}
@@ -29,10 +29,7 @@ bytes-begin : (xs ys : List Parts) → Begins xs ys → Begins (chainBytes xs) (
 bytes-begin xs ys (rest, e) = (chainBytes rest, ap chainBytes e ∙ joined-append blockBytes xs rest)
 
 module _ (r : Run) (premises : Premises r) where
-  abbrev depth : ℕ
-  depth = depthFor (r .table .t)
-
-  window : Windows (setting r) depth
+  window : Windows (setting r) (depth (r .table))
   window = argument.fewer-than-a-third-are-bad (setting r) (r .table .n) (r .table .t) (r .faulty) (turns r premises)
 
   module _ (i k : ℕ) (i-correct : correct r i) (k-correct : correct r k) (j j′ : ℕ) (in-run : InRun r j) (in-run′ : InRun r j′) (later : j ≤ j′)
@@ -43,22 +40,22 @@ module _ (r : Run) (premises : Premises r) where
     abbrev y : Reporter r premises k j′ b
     y = reporter r premises k k-correct j′ in-run′ b says′
 
-    blocks-begin : Begins (settled (setting r) depth j (x .blocks)) (settled (setting r) depth j′ (y .blocks))
+    blocks-begin : Begins (settled (setting r) (depth (r .table)) j (x .blocks)) (settled (setting r) (depth (r .table)) j′ (y .blocks))
     blocks-begin =
-        argument.settled-blocks-stay-settled (setting r) (laws r premises) depth window j j′ (x .blocks) (y .blocks) later (omega (arith, in-run′ .1)) (x .viable)
+        argument.settled-blocks-stay-settled (setting r) (laws r premises) (depth (r .table)) window j j′ (x .blocks) (y .blocks) later (omega (arith, in-run′ .1)) (x .viable)
         (y .viable)
 
     pub stays : Begins (take (a .length) (holds r i j)) (take (b .length) (holds r k j′))
     stays =
-        let (rest, e) = bytes-begin (settled (setting r) depth j (x .blocks)) (settled (setting r) depth j′ (y .blocks)) blocks-begin in
+        let (rest, e) = bytes-begin (settled (setting r) (depth (r .table)) j (x .blocks)) (settled (setting r) (depth (r .table)) j′ (y .blocks)) blocks-begin in
         (rest, y .bytes ∙ e ∙ ap (λ (l : List ℕ). l ++ rest) (sym (x .bytes)))
 
     pub none-fell : NoneFell (a .releases) (b .releases)
     none-fell display =
         let (rest, e) = blocks-begin in
         let start = none (opening (r .genesis) (r .table) 0) in
-        let (middle, first, second) = then-gives (followed start (settled (setting r) depth j (x .blocks))) (λ after. followed after rest) (y .last)
-        (sym (ap (followed start) e ∙ blocks-follow-part-by-part start (settled (setting r) depth j (x .blocks)) rest) ∙ y .follows) in
+        let (middle, first, second) = then-gives (followed start (settled (setting r) (depth (r .table)) j (x .blocks))) (λ after. followed after rest) (y .last)
+        (sym (ap (followed start) e ∙ blocks-follow-part-by-part start (settled (setting r) (depth (r .table)) j (x .blocks)) rest) ∙ y .follows) in
         let same : middle ≡ x .last = gives-same (sym first ∙ x .follows) in
         omega (
           arith,
@@ -74,8 +71,8 @@ module _ (r : Run) (premises : Premises r) where
       let x = reporter r premises i i-correct j in-run a says in
       let (b, says′) = given r premises k k-correct j′ in-run′ in
       let y = reporter r premises k k-correct j′ in-run′ b says′ in
-      let (rest, e) = bytes-begin (settled (setting r) depth j (x .blocks)) (y .blocks)
-      (argument.settled-blocks-begin-each-later-chain (setting r) (laws r premises) depth window j j′ (x .blocks) (y .blocks) later (omega (arith, in-run′ .1))
+      let (rest, e) = bytes-begin (settled (setting r) (depth (r .table)) j (x .blocks)) (y .blocks)
+      (argument.settled-blocks-begin-each-later-chain (setting r) (laws r premises) (depth (r .table)) window j j′ (x .blocks) (y .blocks) later (omega (arith, in-run′ .1))
       (x .viable) (y .viable)) in
       (rest, y .are ∙ e ∙ ap (λ (l : List ℕ). l ++ rest) (sym (x .bytes)))
 
@@ -84,7 +81,7 @@ module _ (r : Run) (premises : Premises r) where
   same i k i-correct k-correct j in-run a b says says′ =
       let x = reporter r premises i i-correct j in-run a says in
       let y = reporter r premises k k-correct j in-run b says′ in
-      let one = argument.one-slot-has-one-settled-list (setting r) (laws r premises) depth window j (x .blocks) (y .blocks) (omega (arith, in-run .1)) (x .viable) (y .viable) in
+      let one = argument.one-slot-has-one-settled-list (setting r) (laws r premises) (depth (r .table)) window j (x .blocks) (y .blocks) (omega (arith, in-run .1)) (x .viable) (y .viable) in
       let last : x .last ≡ y .last = gives-same (sym (x .follows) ∙ ap (followed (none (opening (r .genesis) (r .table) 0))) one ∙ y .follows) in (
         x .bytes ∙ ap chainBytes one ∙ sym (y .bytes),
         x .settled-count ∙ ap (λ (q : Standing). q .count .0) last ∙ sym (y .settled-count),

@@ -6,11 +6,10 @@ use mathlib.Core.Bool.{Bool, true, false, not}
 use mathlib.Core.List.{List, [], _∷_, _++_, append-assoc, append-nil}
 use native.Mathlib.Nat.{mod-lt}
 use native.Mathlib.Omega.{arith}
-use lib.Dec.{ltb, eqb}
+use lib.Dec.{eqb}
 use lib.ListN.{length, length-append}
 use borrow.Author.Tests.{lt-ltb, eq-eqb, eqb-true, eqb-false}
 use Rattle.laws.specs.Pick.{pick}
-use Rattle.laws.specs.Told.{gives, unless}
 use Rattle.laws.specs.Fold.{folded}
 use Rattle.laws.proofs.Cases.{lt-cases, eq-cases}
 use Rattle.laws.proofs.Every.{within-here}
@@ -22,9 +21,8 @@ use Rattle.block.specs.Block.{Parts}
 use Rattle.chain.specs.Chain.{held, none}
 use Rattle.chain.specs.Blocks.{chainBytes, Below}
 use Rattle.chain.proofs.Theorems.{at-most-256-blocks}
-use Rattle.adopt.specs.Adopt.{accepted}
 use Rattle.agreement.specs.Core.{Long}
-use Rattle.runs.specs.Runs.{Node, heldBytes, Event, AdoptedOrEqualled, adopted-now, equalled, delivery, offer, meets, issues, Run, correct, afterIssuing, afterOffers, passed, inSlot, issued, as-issued, InRun, OfRun, Premises}
+use Rattle.runs.specs.Runs.{Node, heldBytes, Event, adopts, AdoptedOrEqualled, delivery, offer, afterEvent, issues, Run, correct, afterIssuing, afterOffers, afterSlot, inSlot, issued, as-issued, InRun, OfRun, Premises}
 use Rattle.runs.proofs.Nodes.{opening, Keeps, keeps-later}
 use Rattle.runs.proofs.Pools.{pooled-none, pooled-later, pooled-offer}
 use Rattle.runs.proofs.Issuing.{Issuer, block, still-accepted, keeps-one-more}
@@ -60,7 +58,7 @@ module _ (r : Run) (premises : Premises r) where
   -- a correct controller when the slot has passed
   pub record Passed (i slot : ℕ) : Type 0 where
     pub blocks : List Parts
-    pub fine : Fine r (slot + 1) slot (passed r i slot) blocks
+    pub fine : Fine r (slot + 1) slot (afterSlot r i slot) blocks
     pub long : Long (setting r) slot blocks
     -- what it issued itself it holds
     pub own : 1 ≤ slot → turn (r .table) slot ≡ i → length (blocksIn (issued r slot)) ≤ length blocks
@@ -83,18 +81,18 @@ module _ (r : Run) (premises : Premises r) where
 
   -- ---- deliveries
   module _ (i : ℕ) (is-correct : correct r i) (slot : ℕ) (in-run : InRun r (suc slot)) (before : Passed i slot) where
-    begins : Fine r (suc slot) (suc slot) (passed r i slot) (before .blocks)
+    begins : Fine r (suc slot) (suc slot) (afterSlot r i slot) (before .blocks)
     begins = record {
-      keeps = keeps-later (r .genesis) (r .table) (slot + 1) (suc slot) (passed r i slot .buffer) (passed r i slot .size) (before .blocks) (omega arith)
+      keeps = keeps-later (r .genesis) (r .table) (slot + 1) (suc slot) (afterSlot r i slot .buffer) (afterSlot r i slot .size) (before .blocks) (omega arith)
           (before .fine .keeps);
-      pooled = pooled-later slot (suc slot) (passed r i slot .pool) (omega arith) (before .fine .pooled);
+      pooled = pooled-later slot (suc slot) (afterSlot r i slot .pool) (omega arith) (before .fine .pooled);
       of-run = before .fine .of-run;
       verify = before .fine .verify;
     }
 
     whole-slot : Grown r premises i is-correct (suc slot) in-run (inSlot r i (suc slot)) (before .blocks)
     whole-slot =
-        events-fine r premises i is-correct (suc slot) in-run [] (r .events i (suc slot)) [] (sym (append-nil (r .events i (suc slot)))) (passed r i slot)
+        events-fine r premises i is-correct (suc slot) in-run [] (r .events i (suc slot)) [] (sym (append-nil (r .events i (suc slot)))) (afterSlot r i slot)
         (before .blocks) begins
 
     -- what was issued in the slot before is no longer than what is held now
@@ -104,26 +102,19 @@ module _ (r : Run) (premises : Premises r) where
         (λ theirs.
         let (verdicts, (b, a, e)) = premises .reaches slot i low (omega (arith, in-run .1)) good is-correct theirs in
         let chain = it .before ++ (it .block ∷ []) in
-        let few = delivered-is-held r premises i is-correct (suc slot) in-run b a (issued r slot) verdicts e (passed r i slot) (before .blocks) begins chain
+        let few = delivered-is-held r premises i is-correct (suc slot) in-run b a (issued r slot) verdicts e (afterSlot r i slot) (before .blocks) begins chain
         (it .is) (it .valid) (subst (λ (n : ℕ). Below n chain) (omega arith) (it .below)) (whole-slot .more) (whole-slot .fine) in
         omega (arith, few, ap length (issued-blocks slot it)))
 
-    -- and the answer to it is its count, or 11
+    -- and it is adopted, or as many blocks are held
     pub answered : Issued slot → (b a : List Event) (verdicts : List ℕ) → r .events i (suc slot) ≡ b ++ delivery (issued r slot) verdicts ∷ a
-        → AdoptedOrEqualled
-        (accepted (r .genesis) (suc slot) (folded (meets (r .genesis) (suc slot)) (passed r i slot) b .buffer)
-        (folded (meets (r .genesis) (suc slot)) (passed r i slot) b .size) (issued r slot) verdicts)
+        → AdoptedOrEqualled (issued r slot) (adopts (r .genesis) (suc slot) (folded (afterEvent (r .genesis) (suc slot)) (afterSlot r i slot) b) (issued r slot) verdicts)
     answered it b a verdicts e =
         let chain = it .before ++ (it .block ∷ []) in
-        let s = folded (meets (r .genesis) (suc slot)) (passed r i slot) b in
-        let g = events-fine r premises i is-correct (suc slot) in-run [] b (delivery (issued r slot) verdicts ∷ a) e (passed r i slot) (before .blocks) begins in
-        let answer = delivery-answer r premises i is-correct (suc slot) in-run s (g .more) (g .fine) (issued r slot) verdicts (b, a, e) chain (it .is) (it .valid)
-        (subst (λ (n : ℕ). Below n chain) (omega arith) (it .below)) in
-        subst AdoptedOrEqualled (sym answer) (by-test (ltb (length (g .more)) (length chain)) (length chain))
-      where
-        by-test : (β : Bool) (count : ℕ) → AdoptedOrEqualled (unless β 11 0 (gives count))
-        by-test true count = adopted-now count
-        by-test false count = equalled
+        let s = folded (afterEvent (r .genesis) (suc slot)) (afterSlot r i slot) b in
+        let g = events-fine r premises i is-correct (suc slot) in-run [] b (delivery (issued r slot) verdicts ∷ a) e (afterSlot r i slot) (before .blocks) begins in
+        delivery-answer r premises i is-correct (suc slot) in-run s (g .more) (g .fine) (issued r slot) verdicts (b, a, e) chain (it .is) (it .valid)
+        (subst (λ (n : ℕ). Below n chain) (omega arith) (it .below))
 
     long-now : (1 ≤ slot → correct r (turn (r .table) slot) → Issued slot) → Long (setting r) (suc slot) (whole-slot .more)
     long-now it j good low below =
@@ -150,9 +141,9 @@ module _ (r : Run) (premises : Premises r) where
       known = within-here 1 (r .table .n) i (is-correct .0) (is-correct .1);
       is-turn = is-turn;
       signature = r .signature i slot;
-      signed = premises .typed i is-correct .signatures slot;
+      signed = premises .typed i is-correct .signatures slot in-run is-turn;
       seal = r .seal i slot;
-      sealed = premises .typed i is-correct .seals slot;
+      sealed = premises .typed i is-correct .seals slot in-run is-turn;
     }
 
     abbrev next : Node
@@ -183,7 +174,7 @@ module _ (r : Run) (premises : Premises r) where
       slot = slot;
       in-run = in-run;
       chain = issued r slot;
-      meets = as-issued is-turn refl;
+      encounter = as-issued is-turn refl;
       blocks = longer;
       rest = [];
       are = issued-is ∙ sym (append-nil (chainBytes longer));
@@ -257,15 +248,15 @@ module _ (r : Run) (premises : Premises r) where
         }
 
     offers-after : (before rest : List Order) → r .offers i slot ≡ before ++ rest → (s : Node) → After s
-        → After (folded (λ node order. meets (r .genesis) slot node (offer order)) s rest)
+        → After (folded (λ node order. afterEvent (r .genesis) slot node (offer order)) s rest)
     offers-after before [] e s f = f
     offers-after before (order ∷ rest) e s f =
-        offers-after (before ++ (order ∷ [])) rest (e ∙ sym (append-assoc before (order ∷ []) rest)) (meets (r .genesis) slot s (offer order))
+        offers-after (before ++ (order ∷ [])) rest (e ∙ sym (append-assoc before (order ∷ []) rest)) (afterEvent (r .genesis) slot s (offer order))
         (record {
           blocks = f .blocks;
           fine = record {
             keeps = f .fine .keeps;
-            pooled = pooled-offer (r .genesis) slot (s .buffer) (s .size) (s .pool) order (premises .typed i is-correct .offers slot order (before, rest, e))
+            pooled = pooled-offer (r .genesis) slot (s .buffer) (s .size) (s .pool) order (premises .typed i is-correct .offers slot in-run order (before, rest, e))
                 (f .fine .pooled);
             of-run = f .fine .of-run;
             verify = f .fine .verify;
@@ -281,7 +272,7 @@ module _ (r : Run) (premises : Premises r) where
     long-after j good low below = omega (arith, at .long j good low below, slot-after .grown)
 
   pass : (i : ℕ) (is-correct : correct r i) (slot : ℕ) (in-run : InRun r (suc slot)) → Delivered i (suc slot) → Passed i (suc slot)
-  unfolding passed
+  unfolding afterSlot
   pass i is-correct slot in-run at = record {
     blocks = slot-after i is-correct (suc slot) in-run at .blocks;
     fine = slot-after i is-correct (suc slot) in-run at .fine;
@@ -291,7 +282,7 @@ module _ (r : Run) (premises : Premises r) where
 
   -- ---- from the first slot on
   started : (i : ℕ) → correct r i → Passed i 0
-  unfolding passed
+  unfolding afterSlot
   started i is-correct = record {
     blocks = [];
     fine = record {
@@ -305,7 +296,7 @@ module _ (r : Run) (premises : Premises r) where
         follows = refl;
         below = tt;
       };
-      pooled = pooled-none 0;
+      pooled = pooled-none 0 (r .pools i) (premises .no-orders i is-correct) (premises .typed i is-correct .pool);
       of-run = tt;
       verify = tt;
     };
@@ -341,9 +332,7 @@ module _ (r : Run) (premises : Premises r) where
 
   pub answered-at : (i : ℕ) → correct r i → (slot : ℕ) → InRun r slot → InRun r (suc slot) → correct r (turn (r .table) slot)
       → (b a : List Event) (verdicts : List ℕ) → r .events i (suc slot) ≡ b ++ delivery (issued r slot) verdicts ∷ a
-      → AdoptedOrEqualled
-      (accepted (r .genesis) (suc slot) (folded (meets (r .genesis) (suc slot)) (passed r i slot) b .buffer)
-      (folded (meets (r .genesis) (suc slot)) (passed r i slot) b .size) (issued r slot) verdicts)
+      → AdoptedOrEqualled (issued r slot) (adopts (r .genesis) (suc slot) (folded (afterEvent (r .genesis) (suc slot)) (afterSlot r i slot) b) (issued r slot) verdicts)
   answered-at i is-correct slot (low, high) in-run good =
       let so-far = upto slot high in
       answered i is-correct slot in-run (so-far .all i is-correct) (so-far .issues-well low good)

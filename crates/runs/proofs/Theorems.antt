@@ -10,10 +10,9 @@ use Rattle.laws.specs.Told.{gives}
 use Rattle.laws.specs.Fold.{folded}
 use Rattle.genesis.specs.Genesis.{turn}
 use Rattle.chain.specs.Blocks.{NoneFell}
-use Rattle.adopt.specs.Adopt.{accepted}
 use Rattle.report.specs.Report.{Report}
 use Rattle.agreement.specs.Core.{howMany, Begins}
-use Rattle.runs.specs.Runs.{Event, delivery, AdoptedOrEqualled, meets, appends, Run, correct, passed, inSlot, holds, reports, issued, InRun, Premises}
+use Rattle.runs.specs.Runs.{Event, delivery, afterEvent, adopts, AdoptedOrEqualled, appends, Run, correct, afterSlot, inSlot, holds, reports, issued, InRun, Premises}
 use Rattle.runs.proofs.Slots.{answered-at}
 use Rattle.runs.proofs.Agreed.{given}
 use Rattle.runs.proofs.Reported as reported
@@ -30,7 +29,7 @@ module _ (r : Run) (premises : Premises r) where
     pub what-is-settled-begins-every-later-chain : Begins (take (a .length) (holds r i j)) (holds r k j′)
     what-is-settled-begins-every-later-chain = reported.begins r premises i k i-correct k-correct j j′ in-run in-run′ later a says
 
-    -- so it stays settled, and no display is ever sent back to an older release
+    -- so it stays settled, and no reported release is ever lower later, or at another correct controller
     module _ (b : Report) (says′ : reports r k j′ ≡ gives b) where
       pub what-is-settled-stays-settled : Begins (take (a .length) (holds r i j)) (take (b .length) (holds r k j′))
       what-is-settled-stays-settled = reported.stays r premises i k i-correct k-correct j j′ in-run in-run′ later a says b says′
@@ -39,9 +38,9 @@ module _ (r : Run) (premises : Premises r) where
       no-release-is-taken-back = reported.none-fell r premises i k i-correct k-correct j j′ in-run in-run′ later a says b says′
 
   -- two correct controllers in one slot report the same settled blocks, and the same releases
-  pub no-two-reports-differ : (i k : ℕ) → correct r i → correct r k → (j : ℕ) → InRun r j → (a b : Report) → reports r i j ≡ gives a → reports r k j ≡ gives b
+  pub no-two-settled-lists-differ : (i k : ℕ) → correct r i → correct r k → (j : ℕ) → InRun r j → (a b : Report) → reports r i j ≡ gives a → reports r k j ≡ gives b
       → (take (a .length) (holds r i j) ≡ take (b .length) (holds r k j)) × (a .settled ≡ b .settled) × (a .length ≡ b .length) × (a .releases ≡ b .releases)
-  no-two-reports-differ = reported.same r premises
+  no-two-settled-lists-differ = reported.same r premises
 
   -- "at slot j after deliveries, a correct controller holds at least as many blocks as there were correct turns before j"
   pub held-chains-grow : (i : ℕ) → correct r i → (j : ℕ) → InRun r j → (a : Report) → reports r i j ≡ gives a
@@ -56,12 +55,10 @@ module _ (r : Run) (premises : Premises r) where
   -- and where the issued chain is delivered it is adopted, or as many blocks are held already
   pub an-issued-chain-is-adopted-or-equalled : (i : ℕ) → correct r i → (j : ℕ) → InRun r j → InRun r (suc j) → correct r (turn (r .table) j)
       → (before after : List Event) (verdicts : List ℕ) → r .events i (suc j) ≡ before ++ delivery (issued r j) verdicts ∷ after
-      → AdoptedOrEqualled
-      (accepted (r .genesis) (suc j) (folded (meets (r .genesis) (suc j)) (passed r i j) before .buffer)
-      (folded (meets (r .genesis) (suc j)) (passed r i j) before .size) (issued r j) verdicts)
+      → AdoptedOrEqualled (issued r j) (adopts (r .genesis) (suc j) (folded (afterEvent (r .genesis) (suc j)) (afterSlot r i j) before) (issued r j) verdicts)
   an-issued-chain-is-adopted-or-equalled = answered-at r premises
 
-  -- after the deliveries of the next slot each correct controller holds one block more than the issuer held
+  -- after the deliveries of the next slot each correct controller holds at least one block more than the issuer held
   pub each-correct-turn-adds-a-block : (i : ℕ) → correct r i → (j : ℕ) → InRun r j → InRun r (suc j) → correct r (turn (r .table) j)
       → (a b : Report) → reports r (turn (r .table) j) j ≡ gives a → reports r i (suc j) ≡ gives b → a .held + 1 ≤ b .held
   each-correct-turn-adds-a-block = reported.adds r premises

@@ -19,7 +19,7 @@ use Rattle.block.specs.Block.{Parts, blockBytes, Fits}
 use Rattle.chain.specs.Chain.{longest, linkOf}
 use Rattle.chain.specs.Blocks.{chainBytes}
 use Rattle.adopt.specs.Adopt.{accepted, adopted, adopting}
-use Rattle.pool.specs.Pool.{poolOf, offered}
+use Rattle.pool.specs.Pool.{offered}
 use Rattle.pool.specs.Answers.{poolOr}
 use Rattle.pool.specs.declared.Pool.{Pool}
 use Rattle.issue.specs.Issue.{front, writing, written, appendBytes}
@@ -45,19 +45,14 @@ abbrev pub sizeOr : {A : Type 0} → ℕ → (A → ℕ) → Told A → ℕ
 sizeOr before size (gives a) = size a
 sizeOr before size (refuses number place) = before
 
--- what is delivered is adopted, or as many blocks are held already: 11
-pub data AdoptedOrEqualled : Told ℕ → Type 0 where
-  adopted-now : (count : ℕ) → AdoptedOrEqualled (gives count)
-  equalled : AdoptedOrEqualled (refuses 11 0)
-
 -- an event is a call: adopt, or pool an order
-abbrev pub meets : (genesis : List ℕ) (clock : ℕ) → Node → Event → Node
-meets genesis clock s (delivery bytes verdicts) = record {
+abbrev pub afterEvent : (genesis : List ℕ) (clock : ℕ) → Node → Event → Node
+afterEvent genesis clock s (delivery bytes verdicts) = record {
   buffer = adopting (accepted genesis clock (s .buffer) (s .size) bytes verdicts) (s .buffer) bytes;
   size = sizeOr (s .size) (λ a. a .0) (adopted (accepted genesis clock (s .buffer) (s .size) bytes verdicts) (s .buffer) bytes);
   pool = s .pool;
 }
-meets genesis clock s (offer order) = record {
+afterEvent genesis clock s (offer order) = record {
   buffer = s .buffer;
   size = s .size;
   pool = poolOr (s .pool) (offered genesis clock (s .buffer) (s .size) (s .pool) order);
@@ -83,9 +78,11 @@ pub record Run : Type 0 where
   pub end : ℕ
   -- which controllers, from 1 to n, are faulty
   pub faulty : ℕ → Bool
-  -- the buffer that a controller's host lends
+  -- the buffer that a controller's host lends, and the pool that it starts with
   pub lent : ℕ → List ℕ
-  -- what a controller meets in a slot, in that order, before it issues; and the orders that it is offered after that
+  pub pools : ℕ → Pool
+  -- what a controller meets in a slot, in that order, before it issues, and the orders that it is offered after that: "Faulty ones may send anything, to
+  -- whom and when they like"
   pub events : (controller slot : ℕ) → List Event
   pub offers : (controller slot : ℕ) → List Order
   -- the signatures that its host gives in a slot: the slot's, and the block's
@@ -98,29 +95,29 @@ module _ (r : Run) where
   abbrev pub correct : ℕ → Type 0
   correct i = (1 ≤ i) × (i ≤ r .table .n) × (r .faulty i ≡ false)
 
-  -- "start at slot 1 with no blocks and no pooled orders"
+  -- "start at slot 1 with no blocks"
   abbrev pub start : ℕ → Node
-  start i = record { buffer = r .lent i; size = 0; pool = poolOf [] }
+  start i = record { buffer = r .lent i; size = 0; pool = r .pools i }
 
-  -- a slot: "deliveries first", with offers between them as they come; "then issuing when it is their turn"; then more offers
+  -- "act in every slot: deliveries first", with offers between them as they come; "then issuing when it is their turn"; then more offers
   abbrev pub afterDeliveries : (i slot : ℕ) → Node → Node
-  afterDeliveries i slot s = folded (meets (r .genesis) slot) s (r .events i slot)
+  afterDeliveries i slot s = folded (afterEvent (r .genesis) slot) s (r .events i slot)
 
   abbrev pub afterIssuing : (i slot : ℕ) → Node → Node
   afterIssuing i slot s = pick (eqb (turn (r .table) slot) i) (issues (r .genesis) slot i (r .signature i slot) (r .seal i slot) s) s
 
   abbrev pub afterOffers : (i slot : ℕ) → Node → Node
-  afterOffers i slot s = folded (λ node order. meets (r .genesis) slot node (offer order)) s (r .offers i slot)
+  afterOffers i slot s = folded (λ node order. afterEvent (r .genesis) slot node (offer order)) s (r .offers i slot)
 
   -- what it keeps when a slot has passed
-  unfoldable pub passed : (i slot : ℕ) → Node
-  passed i zero = start i
-  passed i (suc slot) = afterOffers i (suc slot) (afterIssuing i (suc slot) (afterDeliveries i (suc slot) (passed i slot)))
+  unfoldable pub afterSlot : (i slot : ℕ) → Node
+  afterSlot i zero = start i
+  afterSlot i (suc slot) = afterOffers i (suc slot) (afterIssuing i (suc slot) (afterDeliveries i (suc slot) (afterSlot i slot)))
 
   -- a controller in a slot after its deliveries, the chain that it holds then and what it reports
   abbrev pub inSlot : (i slot : ℕ) → Node
   inSlot i zero = start i
-  inSlot i (suc slot) = afterDeliveries i (suc slot) (passed i slot)
+  inSlot i (suc slot) = afterDeliveries i (suc slot) (afterSlot i slot)
 
   abbrev pub holds : (i slot : ℕ) → List ℕ
   holds i slot = heldBytes (inSlot i slot)
@@ -137,10 +134,10 @@ abbrev pub Among : {A : Type 0} → A → List A → Type 0
 Among {A} a l = (before after : List A) × (l ≡ before ++ a ∷ after)
 
 -- where a correct controller meets a chain in a slot
-pub data Meets (r : Run) (i slot : ℕ) (chain : List ℕ) : Type 0 where
-  in-delivery : (verdicts : List ℕ) → Among (delivery chain verdicts) (r .events i slot) → Meets r i slot chain
-  as-held : chain ≡ holds r i slot → Meets r i slot chain
-  as-issued : turn (r .table) slot ≡ i → chain ≡ issued r slot → Meets r i slot chain
+pub data Encounter (r : Run) (i slot : ℕ) (chain : List ℕ) : Type 0 where
+  in-delivery : (verdicts : List ℕ) → Among (delivery chain verdicts) (r .events i slot) → Encounter r i slot chain
+  as-held : chain ≡ holds r i slot → Encounter r i slot chain
+  as-issued : turn (r .table) slot ≡ i → chain ≡ issued r slot → Encounter r i slot chain
 
 abbrev pub InRun : Run → ℕ → Type 0
 InRun r slot = (1 ≤ slot) × (slot ≤ r .end)
@@ -152,33 +149,39 @@ pub record OfRun (r : Run) (p : Parts) : Type 0 where
   pub slot : ℕ
   pub in-run : InRun r slot
   pub chain : List ℕ
-  pub meets : Meets r controller slot chain
+  pub encounter : Encounter r controller slot chain
   pub blocks : List Parts
   pub rest : List ℕ
   pub are : chain ≡ chainBytes blocks ++ rest
   pub fit : Each Fits blocks
   pub among : Among p blocks
 
+abbrev pub OfType : Order → Type 0
+OfType order = (order .expected ≤ largest) × (order .new ≤ largest)
+
 -- what is handed to a correct controller's calls is of their types
 pub record Typed (r : Run) (i : ℕ) : Type 0 where
   pub buffer : Bytes (r .lent i)
-  pub deliveries : (slot : ℕ) (bytes verdicts : List ℕ) → Among (delivery bytes verdicts) (r .events i slot) → Bytes bytes
-  pub events : (slot : ℕ) (order : Order) → Among (offer order) (r .events i slot) → (order .expected ≤ largest) × (order .new ≤ largest)
-  pub offers : (slot : ℕ) (order : Order) → Among order (r .offers i slot) → (order .expected ≤ largest) × (order .new ≤ largest)
-  pub signatures : (slot : ℕ) → (length (r .signature i slot) ≡ 64) × Bytes (r .signature i slot)
-  pub seals : (slot : ℕ) → (length (r .seal i slot) ≡ 64) × Bytes (r .seal i slot)
+  pub pool : Each (λ entry. OfType (entry .order)) (r .pools i .entries)
+  pub deliveries : (slot : ℕ) → InRun r slot → (bytes verdicts : List ℕ) → Among (delivery bytes verdicts) (r .events i slot) → Bytes bytes
+  pub events : (slot : ℕ) → InRun r slot → (order : Order) → Among (offer order) (r .events i slot) → OfType order
+  pub offers : (slot : ℕ) → InRun r slot → (order : Order) → Among order (r .offers i slot) → OfType order
+  pub signatures : (slot : ℕ) → InRun r slot → turn (r .table) slot ≡ i → (length (r .signature i slot) ≡ 64) × Bytes (r .signature i slot)
+  pub seals : (slot : ℕ) → InRun r slot → turn (r .table) slot ≡ i → (length (r .seal i slot) ≡ 64) × Bytes (r .seal i slot)
 
 -- the block is the last one of a chain
 abbrev pub LastOf : List ℕ → Parts → Type 0
 LastOf chain p = (before : List Parts) × Each Fits (before ++ (p ∷ [])) × (chain ≡ chainBytes (before ++ (p ∷ [])))
 
 pub record Premises (r : Run) : Type 0 where
-  -- "Correct ones share one genesis with this n and t"
+  -- "n at least 5t + 1. Correct ones share one genesis with this n and t": a table that reads has n at least 5t + 1
   pub genesis : Bytes (r .genesis)
   pub reads : genesisOf (r .genesis) ≡ gives (r .table)
   -- "n controllers, at most t faulty"
   pub few : howMany (r .faulty) 0 (r .table .n) ≤ r .table .t
   pub ends : r .end ≤ 256
+  -- "start at slot 1 with .. no pooled orders"
+  pub no-orders : (i : ℕ) → correct r i → r .pools i .count ≡ 0
   -- "lend full-sized buffers"
   pub full : (i : ℕ) → correct r i → longest ≤ length (r .lent i)
   pub typed : (i : ℕ) → correct r i → Typed r i
@@ -196,3 +199,12 @@ pub record Premises (r : Run) : Type 0 where
   -- "no digest is shared by two different blocks of the run or by one and the genesis"
   pub digests : (p q : Parts) → OfRun r p → OfRun r q → linkOf (blockBytes p) ≡ linkOf (blockBytes q) → p ≡ q
   pub not-the-genesis : (p : Parts) → OfRun r p → linkOf (blockBytes p) ≡ linkOf (r .genesis) → ⊥
+
+-- ---- what comes of a delivery
+abbrev pub adopts : (genesis : List ℕ) (clock : ℕ) → Node → (bytes verdicts : List ℕ) → Told (ℕ × ℕ)
+adopts genesis clock s bytes verdicts = adopted (accepted genesis clock (s .buffer) (s .size) bytes verdicts) (s .buffer) bytes
+
+-- the delivered chain is what is held then, or as many blocks are held already: 11
+pub data AdoptedOrEqualled (bytes : List ℕ) : Told (ℕ × ℕ) → Type 0 where
+  adopted-now : (count : ℕ) → AdoptedOrEqualled bytes (gives (length bytes, count))
+  equalled : AdoptedOrEqualled bytes (refuses 11 0)
