@@ -1,7 +1,7 @@
 -- No two blocks of the run share a digest, nor does one share the genesis's: the first byte tells which it is.
 -- Assumes nothing.
 use Prim.Native.Nat.{ℕ, zero, suc, _<_, _≤_}
-use mathlib.Core.Path.{_≡_, refl, sym, ap, _∙_}
+use mathlib.Core.Path.{_≡_, sym, ap, _∙_}
 use mathlib.Core.List.{List}
 use native.Mathlib.Omega.{arith}
 use lib.Dec.{eqb}
@@ -17,8 +17,8 @@ use Rattle.forked.proofs.Digests.{link-0, link-1, link-2, link-3, link-
 abbrev byFirst : ℕ → ℕ
 byFirst byte =
     pick (eqb byte 0x51) 0
-    (pick (eqb byte 0x81) 1
-    (pick (eqb byte 0xa5) 2 (pick (eqb byte 0xa2) 3 (pick (eqb byte 0xa3) 4 (pick (eqb byte 0x60) 5 (pick (eqb byte 0x7d) 6 7))))))
+    (pick (eqb byte 0x73) 1
+    (pick (eqb byte 0xfe) 2 (pick (eqb byte 0xbb) 3 (pick (eqb byte 0x7c) 4 (pick (eqb byte 0x17) 5 (pick (eqb byte 0x15) 6 7))))))
 
 -- k for the link of the block of slot k + 1, and 7 for the other block's digest
 abbrev place : List ℕ → ℕ

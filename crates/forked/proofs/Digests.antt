@@ -7,7 +7,7 @@ use Rattle.number.specs.Number.{written, groups}
 use Rattle.sha256.specs.Sha256.{roundConstants, padded, blockAt, schedule, round, working}
 use Rattle.block.specs.Block.{blockBytes, frontBytes}
 use Rattle.chain.specs.Chain.{linkOf}
-use Rattle.forked.specs.Forked.{genesis, signature, seal, otherSeal, block, link, other}
+use Rattle.forked.specs.Forked.{genesis, signature, seal, block, boot, carried, link, other}
 use Rattle.forked.proofs.Chunks.{digestOf, link-is}
 
 abbrev hashes-0 : List (List ℕ)
@@ -28,97 +28,97 @@ link-0 = computed-0
 
 abbrev hashes-1 : List (List ℕ)
 hashes-1 =
-    (0xa3edd3f3 ∷ 0x3a1039e1 ∷ 0xd0465c55 ∷ 0xf0483e25 ∷ 0x3e19b0f0 ∷ 0xd73b4f5e ∷ 0xf20bb183 ∷ 0xd1b96467 ∷ []) ∷
-    (0x91401440 ∷ 0x20ebe1d5 ∷ 0xab55fab1 ∷ 0x3135088c ∷ 0xa77abbf6 ∷ 0x7f11c54d ∷ 0x675a000f ∷ 0xd4fadd59 ∷ []) ∷
-    (0x81f0861c ∷ 0x8eddfec7 ∷ 0x47c49c6b ∷ 0x0976d015 ∷ 0x92ac38f2 ∷ 0x73401527 ∷ 0x2f5fbb16 ∷ 0x831a7bae ∷ []) ∷ []
+    (0xe99310b3 ∷ 0x9047f218 ∷ 0xdae4cf64 ∷ 0xccfbebb2 ∷ 0xafb86264 ∷ 0x6998d1ae ∷ 0x9114450b ∷ 0x70380b2a ∷ []) ∷
+    (0x3ee8f20b ∷ 0x4da7da78 ∷ 0xd26690d1 ∷ 0x49a0557a ∷ 0xed5c81ea ∷ 0x60ad7935 ∷ 0x54ff8fb2 ∷ 0xa00fdde5 ∷ []) ∷
+    (0x73e1bbf1 ∷ 0xcd6a985d ∷ 0x8f663f02 ∷ 0x35c2c4d0 ∷ 0xf071c752 ∷ 0xb0ed0fe5 ∷ 0x214a1059 ∷ 0xd7ed81ec ∷ []) ∷ []
 
-computed-1 : linkOf (blockBytes (block (digestOf hashes-0) 1 seal)) ≡ digestOf hashes-1
+computed-1 : linkOf (blockBytes (block (digestOf hashes-0) (carried 0) 1)) ≡ digestOf hashes-1
 unfolding roundConstants padded blockAt schedule round working written groups frontBytes blockBytes signature seal
-computed-1 = link-is (blockBytes (block (digestOf hashes-0) 1 seal)) hashes-1 refl refl (refl, refl, (refl, refl, (refl, refl, tt)))
+computed-1 = link-is (blockBytes (block (digestOf hashes-0) (carried 0) 1)) hashes-1 refl refl (refl, refl, (refl, refl, (refl, refl, tt)))
 
 pub link-1 : link 1 ≡ digestOf hashes-1
 unfolding link
-link-1 = ap (λ (l : List ℕ). linkOf (blockBytes (block l 1 seal))) link-0 ∙ computed-1
+link-1 = ap (λ (l : List ℕ). linkOf (blockBytes (block l (carried 0) 1))) link-0 ∙ computed-1
 
 abbrev hashes-2 : List (List ℕ)
 hashes-2 =
-    (0xf3a9ccb3 ∷ 0xd17cef7f ∷ 0x1ea473ff ∷ 0x99631d2d ∷ 0xee2f4a60 ∷ 0x3756eeae ∷ 0xb0d77c1c ∷ 0xae68bece ∷ []) ∷
-    (0x2afb795a ∷ 0x5e6c689a ∷ 0x32aeee53 ∷ 0x756eeb92 ∷ 0xd200c414 ∷ 0x51dc49dc ∷ 0x818c6d4e ∷ 0x92e6c6ac ∷ []) ∷
-    (0xa585b036 ∷ 0x89352a55 ∷ 0xa26d5cef ∷ 0x804f3e14 ∷ 0xa27652e5 ∷ 0xecf9c01f ∷ 0xe89184ce ∷ 0x5bcdbefb ∷ []) ∷ []
+    (0x3112cd37 ∷ 0xd2e1fca0 ∷ 0xafca1af2 ∷ 0xfd342ded ∷ 0x76b0a87c ∷ 0x5653b567 ∷ 0x246981db ∷ 0x503a745e ∷ []) ∷
+    (0xb8a13125 ∷ 0x1d9194d1 ∷ 0xc61e391f ∷ 0x5a8f27a6 ∷ 0xb4c0b29f ∷ 0x06be09d7 ∷ 0xc1bea6ff ∷ 0x962b68ab ∷ []) ∷
+    (0xfe288cbb ∷ 0xb57ba299 ∷ 0xe0bd4cce ∷ 0x46048d39 ∷ 0xc695e9a8 ∷ 0x4d828f41 ∷ 0xbc84c60f ∷ 0x63c0b940 ∷ []) ∷ []
 
-computed-2 : linkOf (blockBytes (block (digestOf hashes-1) 2 seal)) ≡ digestOf hashes-2
+computed-2 : linkOf (blockBytes (block (digestOf hashes-1) (carried 1) 2)) ≡ digestOf hashes-2
 unfolding roundConstants padded blockAt schedule round working written groups frontBytes blockBytes signature seal
-computed-2 = link-is (blockBytes (block (digestOf hashes-1) 2 seal)) hashes-2 refl refl (refl, refl, (refl, refl, (refl, refl, tt)))
+computed-2 = link-is (blockBytes (block (digestOf hashes-1) (carried 1) 2)) hashes-2 refl refl (refl, refl, (refl, refl, (refl, refl, tt)))
 
 pub link-2 : link 2 ≡ digestOf hashes-2
 unfolding link
-link-2 = ap (λ (l : List ℕ). linkOf (blockBytes (block l 2 seal))) link-1 ∙ computed-2
+link-2 = ap (λ (l : List ℕ). linkOf (blockBytes (block l (carried 1) 2))) link-1 ∙ computed-2
 
 abbrev hashes-3 : List (List ℕ)
 hashes-3 =
-    (0xde670bb8 ∷ 0x3cb1366f ∷ 0x976485c8 ∷ 0x1bd6f4e8 ∷ 0x2961cd8e ∷ 0x9ea40db0 ∷ 0x39151f58 ∷ 0x4a27bbcb ∷ []) ∷
-    (0x14245d24 ∷ 0x8a64f723 ∷ 0x30e0101a ∷ 0x31f5efe7 ∷ 0x5fb1e2e3 ∷ 0x356d0a76 ∷ 0xeb134bf7 ∷ 0x4ba719b9 ∷ []) ∷
-    (0xa2b9b790 ∷ 0xef15a396 ∷ 0xb556ad20 ∷ 0x658e201c ∷ 0xd6390381 ∷ 0xc26ebdef ∷ 0x9a59fc58 ∷ 0x53afddbd ∷ []) ∷ []
+    (0x7fd7bf71 ∷ 0x4e0f6d91 ∷ 0x30e19692 ∷ 0x355cbf09 ∷ 0xe2ae14fd ∷ 0xaf28ffb7 ∷ 0x5803f29c ∷ 0xf162894e ∷ []) ∷
+    (0xd3a9fbd5 ∷ 0xafebe513 ∷ 0xa1d04521 ∷ 0x8cb4a2c5 ∷ 0xb3b63b1e ∷ 0xe015531d ∷ 0xdf6c6ed9 ∷ 0x41033916 ∷ []) ∷
+    (0xbb88e0e8 ∷ 0x7cd3c27a ∷ 0x4803bd1c ∷ 0xc09eee47 ∷ 0xc416da75 ∷ 0xf1598e03 ∷ 0x320b3429 ∷ 0xf5765c8d ∷ []) ∷ []
 
-computed-3 : linkOf (blockBytes (block (digestOf hashes-2) 3 seal)) ≡ digestOf hashes-3
+computed-3 : linkOf (blockBytes (block (digestOf hashes-2) (carried 2) 3)) ≡ digestOf hashes-3
 unfolding roundConstants padded blockAt schedule round working written groups frontBytes blockBytes signature seal
-computed-3 = link-is (blockBytes (block (digestOf hashes-2) 3 seal)) hashes-3 refl refl (refl, refl, (refl, refl, (refl, refl, tt)))
+computed-3 = link-is (blockBytes (block (digestOf hashes-2) (carried 2) 3)) hashes-3 refl refl (refl, refl, (refl, refl, (refl, refl, tt)))
 
 pub link-3 : link 3 ≡ digestOf hashes-3
 unfolding link
-link-3 = ap (λ (l : List ℕ). linkOf (blockBytes (block l 3 seal))) link-2 ∙ computed-3
+link-3 = ap (λ (l : List ℕ). linkOf (blockBytes (block l (carried 2) 3))) link-2 ∙ computed-3
 
 abbrev hashes-4 : List (List ℕ)
 hashes-4 =
-    (0xdceab08f ∷ 0xeca22da8 ∷ 0x2e729127 ∷ 0xd266e5c9 ∷ 0x214c837c ∷ 0x8ce8266c ∷ 0x1c482676 ∷ 0x6184f09a ∷ []) ∷
-    (0x067960da ∷ 0xe7a16323 ∷ 0xd02be1a6 ∷ 0x5dde71d0 ∷ 0x78761ff1 ∷ 0x78f08782 ∷ 0xddabc2c2 ∷ 0x5e3d106a ∷ []) ∷
-    (0xa3e55410 ∷ 0xd955a6c7 ∷ 0x51eded4a ∷ 0x6420b286 ∷ 0xed0ae947 ∷ 0x958dd6df ∷ 0xc9ab3616 ∷ 0x2b272ace ∷ []) ∷ []
+    (0xe84709ed ∷ 0x0f289a21 ∷ 0x0dc9f23f ∷ 0xb2e50f5c ∷ 0x1431dfe6 ∷ 0xc8b589c8 ∷ 0x133a4b7c ∷ 0x9082be21 ∷ []) ∷
+    (0x489813d3 ∷ 0xd9440e31 ∷ 0x0bc51457 ∷ 0x68c3a39a ∷ 0xb2a1a080 ∷ 0x699818c1 ∷ 0xc7dbd2ef ∷ 0xcff8c932 ∷ []) ∷
+    (0x7cb31296 ∷ 0x1d10f513 ∷ 0xe23fbdea ∷ 0x84c8a5b7 ∷ 0x8c21346c ∷ 0x3c3855cc ∷ 0x82b02551 ∷ 0xe26df710 ∷ []) ∷ []
 
-computed-4 : linkOf (blockBytes (block (digestOf hashes-3) 4 seal)) ≡ digestOf hashes-4
+computed-4 : linkOf (blockBytes (block (digestOf hashes-3) (carried 3) 4)) ≡ digestOf hashes-4
 unfolding roundConstants padded blockAt schedule round working written groups frontBytes blockBytes signature seal
-computed-4 = link-is (blockBytes (block (digestOf hashes-3) 4 seal)) hashes-4 refl refl (refl, refl, (refl, refl, (refl, refl, tt)))
+computed-4 = link-is (blockBytes (block (digestOf hashes-3) (carried 3) 4)) hashes-4 refl refl (refl, refl, (refl, refl, (refl, refl, tt)))
 
 pub link-4 : link 4 ≡ digestOf hashes-4
 unfolding link
-link-4 = ap (λ (l : List ℕ). linkOf (blockBytes (block l 4 seal))) link-3 ∙ computed-4
+link-4 = ap (λ (l : List ℕ). linkOf (blockBytes (block l (carried 3) 4))) link-3 ∙ computed-4
 
 abbrev hashes-5 : List (List ℕ)
 hashes-5 =
-    (0xfac64ea1 ∷ 0xf17a28f4 ∷ 0x8de799ef ∷ 0xe91dcd90 ∷ 0x97e1c3d5 ∷ 0x0094dc0b ∷ 0x554955b1 ∷ 0xec0009d4 ∷ []) ∷
-    (0x15cb6289 ∷ 0x1a45a031 ∷ 0x778b667e ∷ 0xecbd46ea ∷ 0xe79f914f ∷ 0xc39aa7f1 ∷ 0xef6cd934 ∷ 0x7d81fb18 ∷ []) ∷
-    (0x604a85d5 ∷ 0x268b90ad ∷ 0x878cac5f ∷ 0x7be32578 ∷ 0xd53a289e ∷ 0x4bba9597 ∷ 0xff10866b ∷ 0xe0848f90 ∷ []) ∷ []
+    (0x0f292338 ∷ 0x198e8bea ∷ 0x9f24a71f ∷ 0x2610143f ∷ 0xbfcaec57 ∷ 0x493a7d7f ∷ 0xc500b6bd ∷ 0x81fe09b2 ∷ []) ∷
+    (0x73a8d7db ∷ 0x34aae51c ∷ 0x34de1f4d ∷ 0xb5c0db0c ∷ 0x6ccda854 ∷ 0x9d743d8a ∷ 0x3029af5f ∷ 0xe290761c ∷ []) ∷
+    (0x171091ab ∷ 0x347e996f ∷ 0xc6d413f0 ∷ 0x061d0c52 ∷ 0xb756be23 ∷ 0xdbccdeb9 ∷ 0xf9adbd22 ∷ 0x9470f3a6 ∷ []) ∷ []
 
-computed-5 : linkOf (blockBytes (block (digestOf hashes-4) 5 seal)) ≡ digestOf hashes-5
+computed-5 : linkOf (blockBytes (block (digestOf hashes-4) (carried 4) 5)) ≡ digestOf hashes-5
 unfolding roundConstants padded blockAt schedule round working written groups frontBytes blockBytes signature seal
-computed-5 = link-is (blockBytes (block (digestOf hashes-4) 5 seal)) hashes-5 refl refl (refl, refl, (refl, refl, (refl, refl, tt)))
+computed-5 = link-is (blockBytes (block (digestOf hashes-4) (carried 4) 5)) hashes-5 refl refl (refl, refl, (refl, refl, (refl, refl, tt)))
 
 pub link-5 : link 5 ≡ digestOf hashes-5
 unfolding link
-link-5 = ap (λ (l : List ℕ). linkOf (blockBytes (block l 5 seal))) link-4 ∙ computed-5
+link-5 = ap (λ (l : List ℕ). linkOf (blockBytes (block l (carried 4) 5))) link-4 ∙ computed-5
 
 abbrev hashes-6 : List (List ℕ)
 hashes-6 =
-    (0xb6bb697a ∷ 0x637522ef ∷ 0x600996a6 ∷ 0x8aa0d940 ∷ 0x6ee310a2 ∷ 0x2ed1a530 ∷ 0xea0c0589 ∷ 0x5668d6d7 ∷ []) ∷
-    (0xb28391ef ∷ 0x0f12d02c ∷ 0xb3d7de24 ∷ 0xe8dca161 ∷ 0x0bfeaf20 ∷ 0x46ee99f6 ∷ 0xf12a8fc7 ∷ 0x2ceb8ae0 ∷ []) ∷
-    (0x7dccdc6d ∷ 0xbe0138b4 ∷ 0xf3abd6ec ∷ 0x163899e2 ∷ 0xf38e8e72 ∷ 0x7475456e ∷ 0xda98ca79 ∷ 0xd35dc3c2 ∷ []) ∷ []
+    (0xafd10426 ∷ 0xc08890c7 ∷ 0x91ec2882 ∷ 0x6cff6cbb ∷ 0x88436204 ∷ 0xddd98be3 ∷ 0x4da2984c ∷ 0x4dad63d0 ∷ []) ∷
+    (0x26187c60 ∷ 0x24b8c739 ∷ 0x1a2860b2 ∷ 0x703085cf ∷ 0x85e0b3bb ∷ 0x639c12e9 ∷ 0xcdebb5db ∷ 0xd3b12b5d ∷ []) ∷
+    (0x1596ef83 ∷ 0x4da92560 ∷ 0x10af9399 ∷ 0x8fa84ca8 ∷ 0x929e336f ∷ 0x2eb7d83f ∷ 0x173960c3 ∷ 0xaae7ea31 ∷ []) ∷ []
 
-computed-6 : linkOf (blockBytes (block (digestOf hashes-5) 6 seal)) ≡ digestOf hashes-6
+computed-6 : linkOf (blockBytes (block (digestOf hashes-5) (carried 5) 6)) ≡ digestOf hashes-6
 unfolding roundConstants padded blockAt schedule round working written groups frontBytes blockBytes signature seal
-computed-6 = link-is (blockBytes (block (digestOf hashes-5) 6 seal)) hashes-6 refl refl (refl, refl, (refl, refl, (refl, refl, tt)))
+computed-6 = link-is (blockBytes (block (digestOf hashes-5) (carried 5) 6)) hashes-6 refl refl (refl, refl, (refl, refl, (refl, refl, tt)))
 
 pub link-6 : link 6 ≡ digestOf hashes-6
 unfolding link
-link-6 = ap (λ (l : List ℕ). linkOf (blockBytes (block l 6 seal))) link-5 ∙ computed-6
+link-6 = ap (λ (l : List ℕ). linkOf (blockBytes (block l (carried 5) 6))) link-5 ∙ computed-6
 
 abbrev other-hashes : List (List ℕ)
 other-hashes =
-    (0xa3edd3f3 ∷ 0x3a1039e1 ∷ 0xd0465c55 ∷ 0xf0483e25 ∷ 0x3e19b0f0 ∷ 0xd73b4f5e ∷ 0xf20bb183 ∷ 0xd1b96467 ∷ []) ∷
-    (0x17299440 ∷ 0x9ca23e02 ∷ 0x63cbfae1 ∷ 0x193f3f24 ∷ 0xb943ddbd ∷ 0x2d5a6150 ∷ 0x9e6f9fe2 ∷ 0x0d32a0a7 ∷ []) ∷
-    (0x2c2ecdcc ∷ 0xde35a755 ∷ 0x6ae00ad3 ∷ 0xe1a8645b ∷ 0x602e2c48 ∷ 0xc66041a5 ∷ 0x129fd73e ∷ 0xc51746a1 ∷ []) ∷ []
+    (0x030a7da9 ∷ 0x4a79379f ∷ 0x7de1e137 ∷ 0xd131f55f ∷ 0xec704d04 ∷ 0xb4d67d4c ∷ 0xe689e20f ∷ 0x4965dd36 ∷ []) ∷
+    (0x0ddb9171 ∷ 0xc49e45df ∷ 0x4489fb9b ∷ 0x5ffd327d ∷ 0x4848689b ∷ 0x44c4acf5 ∷ 0x8da8c145 ∷ 0xcab759aa ∷ []) ∷
+    (0x29d1b5a6 ∷ 0xa2769a4c ∷ 0xe4a64c4f ∷ 0xdbff4189 ∷ 0x7cd451cb ∷ 0x7bc3eb54 ∷ 0x1a23557b ∷ 0xd8684c7b ∷ []) ∷ []
 
-other-computed : linkOf (blockBytes (block (digestOf hashes-0) 1 otherSeal)) ≡ digestOf other-hashes
-unfolding roundConstants padded blockAt schedule round working written groups frontBytes blockBytes signature otherSeal
-other-computed = link-is (blockBytes (block (digestOf hashes-0) 1 otherSeal)) other-hashes refl refl (refl, refl, (refl, refl, (refl, refl, tt)))
+other-computed : linkOf (blockBytes (block (digestOf hashes-0) (boot 2 ∷ []) 1)) ≡ digestOf other-hashes
+unfolding roundConstants padded blockAt schedule round working written groups frontBytes blockBytes signature seal
+other-computed = link-is (blockBytes (block (digestOf hashes-0) (boot 2 ∷ []) 1)) other-hashes refl refl (refl, refl, (refl, refl, (refl, refl, tt)))
 
 pub other-link : linkOf (blockBytes other) ≡ digestOf other-hashes
-other-link = ap (λ (l : List ℕ). linkOf (blockBytes (block l 1 otherSeal))) link-0 ∙ other-computed
+other-link = ap (λ (l : List ℕ). linkOf (blockBytes (block l (boot 2 ∷ []) 1))) link-0 ∙ other-computed

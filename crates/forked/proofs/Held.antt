@@ -1,23 +1,22 @@
 -- What each correct controller holds in each slot of the run, and what is issued.
 -- Assumes nothing.
-use Prim.Native.Nat.{ℕ, zero, suc, _+_, _-_, _%_, _<_, _≤_, zero-le}
+use Prim.Native.Nat.{ℕ, zero, suc, _+_, _<_, _≤_, zero-le}
 use mathlib.Core.Path.{_≡_, refl, sym, ap, _∙_, subst}
 use mathlib.Core.Bool.{Bool, true, false}
 use mathlib.Core.List.{List, [], _∷_, _++_}
 use native.Mathlib.Omega.{arith}
-use lib.Dec.{ltb, leb, eqb}
+use lib.Dec.{eqb}
 use lib.ListN.{length, getD, getD-replicate, length-replicate}
-use borrow.Author.Tests.{lt-ltb, le-leb, eq-eqb, eqb-true, eqb-false, ne-eqb}
+use borrow.Author.Tests.{lt-ltb, eq-eqb, eqb-true, eqb-false, ne-eqb}
 use Rattle.laws.specs.Pick.{pick}
-use Rattle.laws.specs.Told.{Told, gives}
+use Rattle.laws.specs.Told.{gives}
 use Rattle.laws.specs.Fold.{folded}
-use Rattle.laws.specs.Format.{Bytes, Each}
+use Rattle.laws.specs.Format.{Bytes}
 use Rattle.laws.proofs.Every.{within-here}
 use Rattle.laws.proofs.Told.{gives-same}
 use Rattle.number.specs.Number.{numberAt, readGroups}
-use Rattle.order.specs.declared.Order.{Order}
 use Rattle.genesis.specs.Genesis.{genesisOf, turn}
-use Rattle.block.specs.Block.{Parts, Fits}
+use Rattle.block.specs.Block.{Parts}
 use Rattle.chain.specs.Chain.{longest, delivered}
 use Rattle.chain.specs.Blocks.{chainBytes, Admits, Below}
 use Rattle.chain.specs.declared.Opened.{Opened}
@@ -31,8 +30,8 @@ use Rattle.runs.specs.Runs.{Node, heldBytes, delivery, afterEvent, issues, corr
 use Rattle.runs.proofs.Nodes.{opening, Keeps, keeps-later, From, stayed, replaced, Met, met-delivery}
 use Rattle.runs.proofs.Pools.{Pooled, each-zeros, pooled-none}
 use Rattle.runs.proofs.Issuing as issuing
-use Rattle.forked.specs.Forked.{genesis, table, signature, seal, link, next, other, chain, given, verdicts, buffer, run}
-use Rattle.forked.proofs.Blocks.{filled, signed, sealed, start, Stands, stands, Good, chain-good, given-good}
+use Rattle.forked.specs.Forked.{genesis, table, signature, seal, link, next, chain, given, verdicts, buffer, run}
+use Rattle.forked.proofs.Blocks.{filled, signed, sealed, start, stands, Good, given-good}
 
 pub reads : genesisOf genesis ≡ gives table
 unfolding genesisOf numberAt readGroups genesis

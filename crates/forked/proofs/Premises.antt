@@ -1,6 +1,6 @@
 -- The run keeps what demand 3 asks of a run, one premise after the other.
 -- Assumes nothing.
-use Prim.Native.Nat.{ℕ, zero, suc, _+_, _<_, _≤_}
+use Prim.Native.Nat.{ℕ, zero, suc, _<_, _≤_}
 use mathlib.Core.Path.{_≡_, refl, sym, ap, _∙_, subst}
 use mathlib.Core.Bool.{Bool, true}
 use mathlib.Core.List.{List, [], _∷_, _++_}
@@ -62,10 +62,10 @@ isOffer (offer order) = 1
 -- what a controller meets in slot k + 2
 met-in-slot : (e : Event) (i k : ℕ) → Among e (events i (suc (suc k))) → (k < 5) × (e ≡ delivery (chainBytes (given i k)) verdicts)
 met-in-slot e i k among =
-    lt-cases k 5
-    (λ less. (less, the-only e _ (subst (λ (β : Bool). Among e (pick β (delivery (chainBytes (given i k)) verdicts ∷ []) [])) (lt-ltb k 5 less) among)))
-    (λ more. absurd
-    (nowhere e (subst (λ (β : Bool). Among e (pick β (delivery (chainBytes (given i k)) verdicts ∷ []) [])) (le-ltb k 5 more) among)))
+    lt-cases k 5 (λ less. (less, the-only e _ (subst if-before (lt-ltb k 5 less) among))) (λ more. absurd (nowhere e (subst if-before (le-ltb k 5 more) among)))
+  where
+    if-before : Bool → Type 0
+    if-before β = Among e (pick β (delivery (chainBytes (given i k)) verdicts ∷ []) [])
 
 delivered-bytes : (i slot : ℕ) (bytes v : List ℕ) → Among (delivery bytes v) (events i slot) → Bytes bytes
 unfolding bytesOf

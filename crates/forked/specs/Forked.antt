@@ -1,13 +1,14 @@
--- A run of six slots with a fork in it. Controller 1 of 6 is faulty and signs two blocks for slot 1. In slot 2 one of them reaches controllers 2
--- and 3, the other one 4, 5 and 6. From then on each slot's controller issues a block behind the chain that it holds, and that chain reaches everybody
--- in the next slot: those that held the other block drop it for the longer chain.
+-- A run of six slots with a fork in it. Controller 1 of 6 is faulty and signs two blocks for slot 1: by one of them display 0 is to boot release 1,
+-- by the other release 2. In slot 2 the one reaches controllers 2 and 3, the other 4, 5 and 6. From then on each slot's controller issues a block
+-- behind the chain that it holds, and that chain reaches everybody in the next slot: those that held the other block drop it for the longer chain.
 -- Assumes nothing.
 use Prim.Native.Nat.{ℕ, zero, suc}
-use mathlib.Core.Bool.{Bool, true}
+use mathlib.Core.Bool.{true}
 use mathlib.Core.List.{List, [], _∷_, _++_}
 use lib.Dec.{ltb, leb, eqb}
 use lib.ListN.{replicate}
 use Rattle.laws.specs.Pick.{pick}
+use Rattle.order.specs.declared.Order.{Order}
 use Rattle.genesis.specs.declared.Genesis.{Genesis}
 use Rattle.block.specs.Block.{Parts, blockBytes}
 use Rattle.chain.specs.Chain.{longest, linkOf}
@@ -24,32 +25,37 @@ genesis =
 abbrev pub table : Genesis
 table = record { n = 6; t = 1; u = 1; releases = replicate 64 0; keys = 67 }
 
--- the signatures that stand in every block of the run, but for the other block's last one
+-- the signatures that stand in every block of the run; nothing looks into them
 unfoldable pub signature : List ℕ
 signature = replicate 64 1
 
 unfoldable pub seal : List ℕ
 seal = replicate 64 2
 
-unfoldable pub otherSeal : List ℕ
-otherSeal = replicate 64 3
-
 -- ---- the blocks
--- a block without orders
-abbrev pub block : (link : List ℕ) (slot : ℕ) (seal : List ℕ) → Parts
-block link slot s = record { link = link; orders = []; slot = slot; slotSignature = signature; blockSignature = s }
+abbrev pub block : (link : List ℕ) → List Order → (slot : ℕ) → Parts
+block before orders slot = record { link = before; orders = orders; slot = slot; slotSignature = signature; blockSignature = seal }
 
--- the link that the block of slot k + 1 carries
+-- display 0 is to boot a release
+abbrev pub boot : ℕ → Order
+boot release = record { display = 0; expected = 0; new = release }
+
+-- the orders of the block of slot k + 1
+abbrev pub carried : ℕ → List Order
+carried zero = boot 1 ∷ []
+carried (suc k) = []
+
+-- its link
 unfoldable pub link : ℕ → List ℕ
 link zero = linkOf genesis
-link (suc k) = linkOf (blockBytes (block (link k) (suc k) seal))
+link (suc k) = linkOf (blockBytes (block (link k) (carried k) (suc k)))
 
 abbrev pub next : ℕ → Parts
-next k = block (link k) (suc k) seal
+next k = block (link k) (carried k) (suc k)
 
 -- the other block that was signed for slot 1
 abbrev pub other : Parts
-other = block (link 0) 1 otherSeal
+other = block (link 0) (boot 2 ∷ []) 1
 
 -- the chain of slots 1 to k + 1
 abbrev pub chain : ℕ → List Parts
