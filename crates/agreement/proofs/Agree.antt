@@ -21,7 +21,7 @@ module _ (s : Setting) (laws : Laws s) where
       omega (arith, grown s laws n h shared c start upto in-run (viable .long), ap length is, length-append shared own)
 
   module _ (depth : ℕ) (window : Windows s depth) where
-    -- "Ordinary": the last good slot on both is fewer slots ago than the depth
+    -- "Ordinary": the last good slot on both is no more slots ago than the depth
     near : (n : ℕ) (c e : List (s .Block)) → n ≤ s .end → Viable s (suc n) c → Viable s (suc n) e → (k : Common s n c e) → n < k .slot + depth
     near n c e in-run c-viable e-viable k =
         let h = k .slot in

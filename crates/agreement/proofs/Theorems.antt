@@ -1,7 +1,7 @@
 -- Why no two correct controllers ever report different settled lists, in the sections of the argument that its lemmas' files name too.
 -- 3: a chain that a correct controller holds has grown by a block in each good slot. Past the last good slot that is on both, two chains
 -- have at most one block for each good slot and two for each bad one. 4: fewer than a third of any long window's slots are bad. 5: so that
--- last common slot is fewer slots ago than the depth, and what is settled lies before it, where both chains are the one issued in it.
+-- last common slot is no more slots ago than the depth, and what is settled lies before it, where both chains are the one issued in it.
 -- Assumes nothing: `Laws` is what is asked of a run, `Windows` how thin its bad slots lie, `Viable` what a correct controller holds.
 use Prim.Native.Nat.{ℕ, _+_, _-_, _*_, _≤_}
 use mathlib.Core.Path.{_≡_}
@@ -19,7 +19,7 @@ pub settled-blocks-are-the-front : (s : Setting) → Laws s → (depth j : ℕ) 
 settled-blocks-are-the-front s laws depth j c passes = settled-parts s depth j 0 c (laws .rises c passes)
 
 -- section 4; another depth only brings another theorem in this one's place
-pub fewer-than-a-third-are-bad : (s : Setting) (n t : ℕ) (faulty : ℕ → Bool) → Turns s n t faulty → Windows s (depthFor t)
+pub fewer-than-a-third-are-bad : (s : Setting) (n t : ℕ) (faulty : ℕ → Bool) → Turns s n t faulty → Windows s (depthFor n t)
 fewer-than-a-third-are-bad = windows
 
 module _ (s : Setting) (laws : Laws s) where
@@ -48,13 +48,13 @@ module _ (s : Setting) (laws : Laws s) where
 
   -- all of it, for n controllers that take turns
   module _ (n t : ℕ) (faulty : ℕ → Bool) (turns : Turns s n t faulty) where
-    pub no-two-reports-differ : (j : ℕ) (c e : List (s .Block)) → j ≤ s .end + 1 → Viable s j c → Viable s j e
-        → settled s (depthFor t) j c ≡ settled s (depthFor t) j e
-    no-two-reports-differ = same-slot s laws (depthFor t) (windows s n t faulty turns)
+    pub no-two-settled-lists-differ : (j : ℕ) (c e : List (s .Block)) → j ≤ s .end + 1 → Viable s j c → Viable s j e
+        → settled s (depthFor n t) j c ≡ settled s (depthFor n t) j e
+    no-two-settled-lists-differ = same-slot s laws (depthFor n t) (windows s n t faulty turns)
 
-    pub no-report-is-taken-back : (j j′ : ℕ) (c e : List (s .Block)) → j ≤ j′ → j′ ≤ s .end + 1 → Viable s j c → Viable s j′ e
-        → Begins (settled s (depthFor t) j c) (settled s (depthFor t) j′ e)
-    no-report-is-taken-back = later-settled s laws (depthFor t) (windows s n t faulty turns)
+    pub no-settled-list-is-taken-back : (j j′ : ℕ) (c e : List (s .Block)) → j ≤ j′ → j′ ≤ s .end + 1 → Viable s j c → Viable s j′ e
+        → Begins (settled s (depthFor n t) j c) (settled s (depthFor n t) j′ e)
+    no-settled-list-is-taken-back = later-settled s laws (depthFor n t) (windows s n t faulty turns)
 
 -- section 2: a controller that issues in slot j reports what it reported before
 pub issuing-settles-nothing : (s : Setting) (depth j : ℕ) (c : List (s .Block)) (b : s .Block) → s .stamp b ≡ j

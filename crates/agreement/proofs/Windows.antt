@@ -26,7 +26,7 @@ module _ (n : ℕ) (test : ℕ → Bool) (again : (i : ℕ) → test (suc (i + n
 
     -- one round less: what is left is a window as long as the depth, or longer, or fewer slots than that
     less : (a slots : ℕ) → n < slots
-        → (depthFor t ≤ slots - n → 3 * howMany test 0 (a + (slots - n)) < 3 * howMany test 0 a + (slots - n))
+        → (depthFor n t ≤ slots - n → 3 * howMany test 0 (a + (slots - n)) < 3 * howMany test 0 a + (slots - n))
         → 3 * howMany test 0 (a + slots) < 3 * howMany test 0 a + slots
     less a slots more rest =
         let r = slots - n in
@@ -36,7 +36,7 @@ module _ (n : ℕ) (test : ℕ → Bool) (again : (i : ℕ) → test (suc (i + n
         (λ some. omega (arith, whole, at-most test a r, short a r (omega arith)))
 
     -- `most` bounds the slots
-    third : (most a slots : ℕ) → slots ≤ most → depthFor t ≤ slots → 3 * howMany test 0 (a + slots) < 3 * howMany test 0 a + slots
+    third : (most a slots : ℕ) → slots ≤ most → depthFor n t ≤ slots → 3 * howMany test 0 (a + slots) < 3 * howMany test 0 a + slots
     third zero a slots h k = absurd (omega arith)
     third (suc most) a slots h k =
         lt-cases n slots (λ more. less a slots more (λ many. third most a (slots - n) (omega arith) many))
@@ -61,7 +61,7 @@ module _ (s : Setting) (n t : ℕ) (faulty : ℕ → Bool) (turns : Turns s n t 
   in-the-run : (a b : ℕ) → b ≤ s .end → badBetween s a b ≡ howMany theirs a b
   in-the-run a b h = alike (bad s) theirs a b (λ i low high. ap not (turns .turn i low (omega arith)) ∙ Bool·not-not (theirs i))
 
-  pub windows : Windows s (depthFor t)
+  pub windows : Windows s (depthFor n t)
   windows from slots h in-run =
       let few : howMany theirs 0 n ≤ t = omega (arith, first, turns .few) in
       let fewer = third n theirs again t (turns .enough) few slots from slots (omega arith) h in

@@ -42,9 +42,9 @@ badBetween s = howMany (bad s)
 abbrev pub Windows : Setting → ℕ → Type 0
 Windows s depth = (from slots : ℕ) → depth ≤ slots → from + slots ≤ s .end → 3 * badBetween s from (from + slots) < slots
 
--- how many slots back a block must lie at least where t controllers are faulty: 01's 3t + 1
-abbrev pub depthFor : ℕ → ℕ
-depthFor t = 3 * t + 1
+-- of n controllers t are faulty: a block is settled when it lies more than so many slots back, 01's 3t + 1
+abbrev pub depthFor : (n t : ℕ) → ℕ
+depthFor n t = 3 * t + 1
 
 -- controllers enough for t faulty ones
 abbrev pub Enough : ℕ → ℕ → Type 0
