@@ -11,17 +11,7 @@ pub fn check(
     chain: &[u8],
     verdicts: &[u8],
 ) -> Result<(BlockCount, Releases), Refusal> {
-    let answer = unsafe {
-        raw::ledger_check(
-            genesis.as_ptr(),
-            genesis.len(),
-            raw::Slot(now.0),
-            chain.as_ptr(),
-            chain.len(),
-            verdicts.as_ptr(),
-            verdicts.len(),
-        )
-    };
+    let answer = raw::ledger_check(genesis, raw::Slot(now.0), chain, verdicts);
     let value = (BlockCount(answer.count.0), answer.releases);
     told(answer.refusal, answer.place, value)
 }
@@ -34,19 +24,7 @@ pub fn choose<'a>(
     delivered: &'a [u8],
     verdicts: &[u8],
 ) -> (&'a [u8], Option<Refusal>) {
-    let answer = unsafe {
-        raw::ledger_choose(
-            genesis.as_ptr(),
-            genesis.len(),
-            raw::Slot(now.0),
-            held.as_ptr(),
-            held.len(),
-            delivered.as_ptr(),
-            delivered.len(),
-            verdicts.as_ptr(),
-            verdicts.len(),
-        )
-    };
+    let answer = raw::ledger_choose(genesis, raw::Slot(now.0), held, delivered, verdicts);
     let shown = if answer.delivered { delivered } else { held };
     (shown, told(answer.refusal, answer.place, ()).err())
 }
@@ -60,20 +38,14 @@ pub fn adopt(
     delivered: &[u8],
     verdicts: &[u8],
 ) -> Result<(usize, BlockCount), Refusal> {
-    let answer = unsafe {
-        raw::ledger_adopt(
-            genesis.as_ptr(),
-            genesis.len(),
-            raw::Slot(now.0),
-            held.as_mut_ptr(),
-            held.len(),
-            held_length,
-            delivered.as_ptr(),
-            delivered.len(),
-            verdicts.as_ptr(),
-            verdicts.len(),
-        )
-    };
+    let answer = raw::ledger_adopt(
+        genesis,
+        raw::Slot(now.0),
+        held,
+        held_length,
+        delivered,
+        verdicts,
+    );
     let value = (answer.length, BlockCount(answer.count.0));
     told(answer.refusal, answer.place, value)
 }
@@ -85,16 +57,7 @@ pub fn report(
     held: &[u8],
     held_length: usize,
 ) -> Result<Report, Refusal> {
-    let answer = unsafe {
-        raw::ledger_report(
-            genesis.as_ptr(),
-            genesis.len(),
-            raw::Slot(now.0),
-            held.as_ptr(),
-            held.len(),
-            held_length,
-        )
-    };
+    let answer = raw::ledger_report(genesis, raw::Slot(now.0), held, held_length);
     let value = Report {
         held: BlockCount(answer.held.0),
         settled: BlockCount(answer.settled.0),
@@ -107,57 +70,16 @@ pub fn report(
 #[cfg(test)]
 mod tests {
     use super::*;
+    use crate::both;
     use crate::chance::Chance;
-    use crate::second;
     use crate::second::samples::{self, Case};
 
-    fn checks_alike(case: &Case) {
-        let first = check(&case.genesis, case.now, &case.delivered, &case.verdicts);
-        let other = second::chain::check(&case.genesis, case.now, &case.delivered, &case.verdicts);
-        assert_eq!(first, other);
-    }
-
-    /// The same slice, not only the same bytes.
-    fn chooses_alike(case: &Case) {
-        let held = &case.held[..case.held_length.min(case.held.len())];
-        let (genesis, delivered, verdicts) = (&case.genesis, &case.delivered, &case.verdicts);
-        let first = choose(genesis, case.now, held, delivered, verdicts);
-        let other = second::adopt::choose(genesis, case.now, held, delivered, verdicts);
-        assert!(std::ptr::eq(first.0, other.0));
-        assert_eq!(first.1, other.1);
-    }
-
-    fn reports_alike(case: &Case) {
-        let first = report(&case.genesis, case.now, &case.held, case.held_length);
-        let other = second::report::report(&case.genesis, case.now, &case.held, case.held_length);
-        assert_eq!(first, other);
-    }
-
-    /// Checks, reports, chooses and adopts as a case says, and sees that the second implementation answers alike and leaves the same bytes.
+    /// Checks, reports, chooses and adopts as a case says, with both.
     fn call(case: &mut Case) -> Option<Refusal> {
-        checks_alike(case);
-        reports_alike(case);
-        chooses_alike(case);
-        let mut second = case.clone();
-        let adopted = adopt(
-            &case.genesis,
-            case.now,
-            &mut case.held,
-            case.held_length,
-            &case.delivered,
-            &case.verdicts,
-        );
-        let expected = second::adopt::adopt(
-            &second.genesis,
-            second.now,
-            &mut second.held,
-            second.held_length,
-            &second.delivered,
-            &second.verdicts,
-        );
-        assert_eq!(adopted, expected);
-        assert_eq!(*case, second);
-        adopted.err()
+        let _ = case.check(both::check);
+        let _ = case.report(both::report);
+        case.choose(both::choose);
+        case.adopt(both::adopt).err()
     }
 
     #[test]
@@ -211,9 +133,7 @@ mod tests {
     /// Zeros stand beside a refusal.
     #[test]
     fn refused() {
-        let byte = 0u8;
-        let none = &raw const byte;
-        let checked = unsafe { raw::ledger_check(none, 0, raw::Slot(1), none, 0, none, 0) };
+        let checked = raw::ledger_check(&[], raw::Slot(1), &[], &[]);
         let zeros = raw::CheckAnswer {
             refusal: 1,
             place: 0,
@@ -221,7 +141,7 @@ mod tests {
             releases: [0; 64],
         };
         assert_eq!(checked, zeros);
-        let reported = unsafe { raw::ledger_report(none, 0, raw::Slot(1), none, 0, 0) };
+        let reported = raw::ledger_report(&[], raw::Slot(1), &[], 0);
         let zeros = raw::ReportAnswer {
             refusal: 1,
             place: 0,

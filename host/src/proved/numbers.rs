@@ -4,43 +4,40 @@ use crate::second::Refusal;
 
 /// The number at a place, and the place after it.
 pub fn read_number(bytes: &[u8], at: usize) -> Result<(u32, usize), Refusal> {
-    let answer = unsafe { raw::ledger_read_number(bytes.as_ptr(), bytes.len(), at) };
+    let answer = raw::ledger_read_number(bytes, at);
     told(answer.refusal, answer.place, (answer.value, answer.next))
 }
 
 /// Writes a number at a place of a buffer and gives the place after it.
 pub fn write_number(value: u32, buffer: &mut [u8], at: usize) -> Result<usize, Refusal> {
-    let answer = unsafe { raw::ledger_write_number(buffer.as_mut_ptr(), buffer.len(), at, value) };
+    let answer = raw::ledger_write_number(buffer, at, value);
     told(answer.refusal, answer.place, answer.next)
 }
 
 /// SHA-256 of a slice.
 pub fn digest(message: &[u8]) -> Result<[u8; 32], Refusal> {
-    let answer = unsafe { raw::ledger_digest(message.as_ptr(), message.len()) };
+    let answer = raw::ledger_digest(message);
     told(answer.refusal, answer.place, answer.digest)
 }
 
 #[cfg(test)]
 mod tests {
     use super::*;
+    use crate::both;
     use crate::chance::Chance;
+    use crate::second::number;
     use crate::second::samples::FILLER;
-    use crate::second::{lent, number, sha256};
 
     /// Reads a number with both, and sees that the proved one leaves zeros beside a refusal.
     fn reads_alike(bytes: &[u8], at: usize) {
-        let second = number::read(bytes.get(at..).unwrap_or(&[]));
-        let expected = second.map(|(value, length)| (value, at + length));
-        assert_eq!(read_number(bytes, at), expected, "{bytes:02X?} at {at}");
-        if let Err(refused) = second {
-            let answer = unsafe { raw::ledger_read_number(bytes.as_ptr(), bytes.len(), at) };
+        if let Err(refused) = both::read_number(bytes, at) {
             let zeros = raw::NumberAnswer {
                 refusal: refused.number,
                 place: 0,
                 value: 0,
                 next: 0,
             };
-            assert_eq!(answer, zeros);
+            assert_eq!(raw::ledger_read_number(bytes, at), zeros);
         }
     }
 
@@ -69,12 +66,7 @@ mod tests {
             let value = chance.number();
             let length = chance.below(12);
             let at = chance.of(&[0, 3, length, usize::MAX]);
-            let mut first = vec![FILLER; length];
-            let mut other = first.clone();
-            let expected = lent::put(&number::bytes(value), &mut other, at);
-            let written = write_number(value, &mut first, at);
-            assert_eq!(written, expected.map(|length| at + length));
-            assert_eq!(first, other);
+            let _ = both::write_number(value, &mut vec![FILLER; length], at);
         }
     }
 
@@ -82,11 +74,7 @@ mod tests {
     fn digests_agree() {
         let message: Vec<u8> = (0..70_000u32).map(|i| ((i * i) >> 5) as u8).collect();
         for length in (0..300).chain([1_000, 4_095, 65_535, 65_536, 65_537, 70_000]) {
-            assert_eq!(
-                digest(&message[..length]),
-                sha256::digest(&message[..length]),
-                "{length} bytes"
-            );
+            let _ = both::digest(&message[..length]);
         }
     }
 }

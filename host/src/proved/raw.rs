@@ -181,114 +181,64 @@ pub struct ReportAnswer {
     pub releases: [u32; 64],
 }
 
-extern "C" {
-    pub fn ledger_read_number(bytes: *const u8, bytes_length: usize, at: usize) -> NumberAnswer;
-    pub fn ledger_write_number(
-        out: *mut u8,
-        out_length: usize,
-        at: usize,
-        value: u32,
-    ) -> WriteAnswer;
-    pub fn ledger_digest(message: *const u8, message_length: usize) -> DigestAnswer;
-    pub fn ledger_read_genesis(bytes: *const u8, bytes_length: usize) -> GenesisAnswer;
-    pub fn ledger_find_key(bytes: *const u8, bytes_length: usize, controller: u32) -> KeyAnswer;
-    pub fn ledger_turn(table: Genesis, slot: Slot) -> u32;
-    pub fn ledger_depth(table: Genesis) -> u64;
-    pub fn ledger_read_block(bytes: *const u8, bytes_length: usize, at: usize) -> BlockAnswer;
-    pub fn ledger_write_block(
-        out: *mut u8,
-        out_length: usize,
-        at: usize,
-        block: Block,
-    ) -> WriteAnswer;
-    pub fn ledger_slot_text(out: *mut u8, out_length: usize, slot: Slot) -> WriteAnswer;
-    pub fn ledger_walk_step(chain: *const u8, chain_length: usize, at: usize) -> StepAnswer;
-    pub fn ledger_check(
-        genesis: *const u8,
-        genesis_length: usize,
-        clock: Slot,
-        chain: *const u8,
-        chain_length: usize,
-        verdicts: *const u8,
-        verdicts_length: usize,
-    ) -> CheckAnswer;
-    pub fn ledger_choose(
-        genesis: *const u8,
-        genesis_length: usize,
-        clock: Slot,
-        held: *const u8,
-        held_length: usize,
-        delivered: *const u8,
-        delivered_length: usize,
-        verdicts: *const u8,
-        verdicts_length: usize,
-    ) -> ChooseAnswer;
-    pub fn ledger_adopt(
-        genesis: *const u8,
-        genesis_length: usize,
-        clock: Slot,
-        held: *mut u8,
-        held_length: usize,
-        length: usize,
-        delivered: *const u8,
-        delivered_length: usize,
-        verdicts: *const u8,
-        verdicts_length: usize,
-    ) -> AdoptAnswer;
-    pub fn ledger_pool_order(
-        genesis: *const u8,
-        genesis_length: usize,
-        clock: Slot,
-        held: *const u8,
-        held_length: usize,
-        length: usize,
-        pool: Pool,
-        order: Order,
-    ) -> PoolAnswer;
-    pub fn ledger_draft(
-        genesis: *const u8,
-        genesis_length: usize,
-        clock: Slot,
-        held: *const u8,
-        held_length: usize,
-        length: usize,
-        pool: Pool,
-        controller: u32,
-        slot_signature: Signature,
-        out: *mut u8,
-        out_length: usize,
-    ) -> IssueAnswer;
-    pub fn ledger_block_text(
-        genesis: *const u8,
-        genesis_length: usize,
-        clock: Slot,
-        held: *const u8,
-        held_length: usize,
-        length: usize,
-        pool: Pool,
-        controller: u32,
-        slot_signature: Signature,
-        out: *mut u8,
-        out_length: usize,
-    ) -> IssueAnswer;
-    pub fn ledger_append(
-        genesis: *const u8,
-        genesis_length: usize,
-        clock: Slot,
-        held: *mut u8,
-        held_length: usize,
-        length: usize,
-        pool: Pool,
-        controller: u32,
-        slot_signature: Signature,
-        block_signature: Signature,
-    ) -> IssueAnswer;
-    pub fn ledger_report(
-        genesis: *const u8,
-        genesis_length: usize,
-        clock: Slot,
-        held: *const u8,
-        held_length: usize,
-        length: usize,
-    ) -> ReportAnswer;
+/// Declares each exported function, with a safe call of the same name that takes slices. A slice is handed on as its pointer, which is never
+/// null, and its length. The borrows keep a buffer that a call writes apart from its other slices.
+///
+/// Parameter by parameter, the lists in brackets grow: what the safe call takes, what is declared, and what is handed on.
+macro_rules! exported {
+    ($(fn $name:ident($($parameters:tt)*) -> $answer:ty;)*) => {
+        $(exported!($name $answer, [] [] [] $($parameters)*,);)*
+    };
+    ($name:ident $answer:ty, [$($taken:tt)*] [$($declared:tt)*] [$($given:tt)*] $slice:ident: &[u8], $($more:tt)*) => {
+        exported!($name $answer,
+            [$($taken)* $slice: &[u8],]
+            [$($declared)* *const u8, usize,]
+            [$($given)* $slice.as_ptr(), $slice.len(),]
+            $($more)*);
+    };
+    ($name:ident $answer:ty, [$($taken:tt)*] [$($declared:tt)*] [$($given:tt)*] $slice:ident: &mut [u8], $($more:tt)*) => {
+        exported!($name $answer,
+            [$($taken)* $slice: &mut [u8],]
+            [$($declared)* *mut u8, usize,]
+            [$($given)* $slice.as_mut_ptr(), $slice.len(),]
+            $($more)*);
+    };
+    ($name:ident $answer:ty, [$($taken:tt)*] [$($declared:tt)*] [$($given:tt)*] $value:ident: $kind:ty, $($more:tt)*) => {
+        exported!($name $answer, [$($taken)* $value: $kind,] [$($declared)* $kind,] [$($given)* $value,] $($more)*);
+    };
+    ($name:ident $answer:ty, [$($taken:tt)*] [$($declared:ty,)*] [$($given:expr,)*]) => {
+        #[allow(clippy::too_many_arguments)]
+        pub fn $name($($taken)*) -> $answer {
+            extern "C" {
+                fn $name($(_: $declared),*) -> $answer;
+            }
+            unsafe { $name($($given),*) }
+        }
+    };
+}
+
+#[rustfmt::skip]
+exported! {
+    fn ledger_read_number(bytes: &[u8], at: usize) -> NumberAnswer;
+    fn ledger_write_number(out: &mut [u8], at: usize, value: u32) -> WriteAnswer;
+    fn ledger_digest(message: &[u8]) -> DigestAnswer;
+    fn ledger_read_genesis(bytes: &[u8]) -> GenesisAnswer;
+    fn ledger_find_key(bytes: &[u8], controller: u32) -> KeyAnswer;
+    fn ledger_turn(table: Genesis, slot: Slot) -> u32;
+    fn ledger_depth(table: Genesis) -> u64;
+    fn ledger_read_block(bytes: &[u8], at: usize) -> BlockAnswer;
+    fn ledger_write_block(out: &mut [u8], at: usize, block: Block) -> WriteAnswer;
+    fn ledger_slot_text(out: &mut [u8], slot: Slot) -> WriteAnswer;
+    fn ledger_walk_step(chain: &[u8], at: usize) -> StepAnswer;
+    fn ledger_check(genesis: &[u8], clock: Slot, chain: &[u8], verdicts: &[u8]) -> CheckAnswer;
+    fn ledger_choose(genesis: &[u8], clock: Slot, held: &[u8], delivered: &[u8], verdicts: &[u8]) -> ChooseAnswer;
+    fn ledger_adopt(genesis: &[u8], clock: Slot, held: &mut [u8], length: usize, delivered: &[u8], verdicts: &[u8]) -> AdoptAnswer;
+    fn ledger_pool_order(genesis: &[u8], clock: Slot, held: &[u8], length: usize, pool: Pool, order: Order) -> PoolAnswer;
+    fn ledger_draft(genesis: &[u8], clock: Slot, held: &[u8], length: usize, pool: Pool, controller: u32, slot_signature: Signature, out: &mut [u8])
+        -> IssueAnswer;
+    fn ledger_block_text(genesis: &[u8], clock: Slot, held: &[u8], length: usize, pool: Pool, controller: u32, slot_signature: Signature, out: &mut [u8])
+        -> IssueAnswer;
+    fn ledger_append(genesis: &[u8], clock: Slot, held: &mut [u8], length: usize, pool: Pool, controller: u32, slot_signature: Signature,
+                     block_signature: Signature) -> IssueAnswer;
+    fn ledger_report(genesis: &[u8], clock: Slot, held: &[u8], length: usize) -> ReportAnswer;
 }

@@ -7,32 +7,32 @@ use crate::second::Refusal;
 pub use super::raw::Genesis as Table;
 
 pub fn read_genesis(bytes: &[u8]) -> Result<Table, Refusal> {
-    let answer = unsafe { raw::ledger_read_genesis(bytes.as_ptr(), bytes.len()) };
+    let answer = raw::ledger_read_genesis(bytes);
     told(answer.refusal, answer.place, answer.table)
 }
 
 /// Where a controller's key begins in the genesis bytes.
 pub fn find_key(bytes: &[u8], controller: u32) -> Result<usize, Refusal> {
-    let answer = unsafe { raw::ledger_find_key(bytes.as_ptr(), bytes.len(), controller) };
+    let answer = raw::ledger_find_key(bytes, controller);
     told(answer.refusal, answer.place, answer.at)
 }
 
 /// Whose turn a slot is.
 pub fn turn(table: Table, slot: Slot) -> u32 {
-    unsafe { raw::ledger_turn(table, raw::Slot(slot.0)) }
+    raw::ledger_turn(table, raw::Slot(slot.0))
 }
 
 /// How many slots a block must lie back to be settled.
 pub fn depth(table: Table) -> u64 {
-    unsafe { raw::ledger_depth(table) }
+    raw::ledger_depth(table)
 }
 
 #[cfg(test)]
 mod tests {
     use super::*;
+    use crate::both;
     use crate::chance::Chance;
-    use crate::second::genesis::{self, Genesis};
-    use crate::second::{refusal, samples};
+    use crate::second::samples;
 
     /// A table of zeros but for these, which can be told apart.
     fn table(n: u32, t: u32) -> Table {
@@ -45,43 +45,21 @@ mod tests {
         }
     }
 
-    fn same(table: Table, bytes: &[u8], second: &Genesis) {
-        assert_eq!((table.n, table.t, table.u), (second.n, second.t, second.u));
-        assert_eq!(table.releases, second.releases);
-        assert_eq!(&bytes[table.keys..], second.keys.as_flattened());
-        for slot in [1, 2, 7, 31, 256, 257, u32::MAX].map(Slot) {
-            assert_eq!(turn(table, slot), second.turn(slot));
-        }
-        assert_eq!(depth(table), u64::from(second.depth()));
-        for (controller, key) in (1..).zip(&second.keys) {
-            let at = find_key(bytes, controller).unwrap();
-            assert_eq!(&bytes[at..at + 32], key);
-        }
-        for controller in [0, second.n + 1, u32::MAX] {
-            assert_eq!(find_key(bytes, controller), Err(refusal(12)));
-        }
-    }
-
     /// Reads a table with both, and sees that the proved one leaves zeros beside a refusal.
     fn reads_alike(bytes: &[u8]) {
-        match genesis::read(bytes) {
-            Ok(second) => same(read_genesis(bytes).unwrap(), bytes, &second),
-            Err(refused) => {
-                let answer = unsafe { raw::ledger_read_genesis(bytes.as_ptr(), bytes.len()) };
-                let zeros = raw::GenesisAnswer {
-                    refusal: refused.number,
-                    place: refused.place,
-                    table: Table {
-                        n: 0,
-                        t: 0,
-                        u: 0,
-                        releases: [0; 64],
-                        keys: 0,
-                    },
-                };
-                assert_eq!(answer, zeros);
-                assert_eq!(find_key(bytes, 1), Err(refused));
-            }
+        if let Err(refused) = both::read_genesis(bytes) {
+            let zeros = raw::GenesisAnswer {
+                refusal: refused.number,
+                place: refused.place,
+                table: Table {
+                    n: 0,
+                    t: 0,
+                    u: 0,
+                    releases: [0; 64],
+                    keys: 0,
+                },
+            };
+            assert_eq!(raw::ledger_read_genesis(bytes), zeros);
         }
     }
 

@@ -62,22 +62,9 @@ mod tests {
 
     /// Adopts as a case says, choosing first: both refuse alike, but for 15, and the choice shows the right bytes.
     fn call(case: &mut Case) -> Option<Refusal> {
-        let adopted = adopt(
-            &case.genesis,
-            case.now,
-            &mut case.held.clone(),
-            case.held_length,
-            &case.delivered,
-            &case.verdicts,
-        );
+        let adopted = case.clone().adopt(adopt);
         if let Some(held) = case.held.get(..case.held_length) {
-            let (shown, refused) = choose(
-                &case.genesis,
-                case.now,
-                held,
-                &case.delivered,
-                &case.verdicts,
-            );
+            let (shown, refused) = case.choose(choose);
             let chosen = if refused.is_none() {
                 &case.delivered
             } else {
@@ -86,15 +73,7 @@ mod tests {
             assert!(std::ptr::eq(shown, chosen));
             assert_eq!(refused, adopted.err().filter(|r| r.number != 15));
         }
-        adopt(
-            &case.genesis,
-            case.now,
-            &mut case.held,
-            case.held_length,
-            &case.delivered,
-            &case.verdicts,
-        )
-        .err()
+        case.adopt(adopt).err()
     }
 
     /// What comes of delivering blocks without orders at some stamps to one who holds such at others, at slot 20.
@@ -146,15 +125,7 @@ mod tests {
     #[test]
     fn the_delivered_chain_comes_to_the_front() {
         let mut case = Case::good();
-        let answer = adopt(
-            &case.genesis,
-            case.now,
-            &mut case.held,
-            case.held_length,
-            &case.delivered,
-            &case.verdicts,
-        );
-        assert_eq!(answer, Ok((5 * BLOCK, BlockCount(5))));
+        assert_eq!(case.adopt(adopt), Ok((5 * BLOCK, BlockCount(5))));
         assert_eq!(case.held[..5 * BLOCK], case.delivered);
         assert_eq!(case.held[5 * BLOCK..], [FILLER; 1_000 - 5 * BLOCK]);
     }

@@ -95,40 +95,16 @@ mod tests {
     use crate::second::samples::{self, entry, order, Case, FILLER};
     use crate::second::sha256;
 
-    fn issue(case: &Case) -> Issue<'_> {
-        Issue {
-            genesis: &case.genesis,
-            now: case.now,
-            pool: &case.pool,
-            controller: case.controller,
-            slot_signature: case.slot_signature,
-        }
-    }
-
     fn call_draft(case: &mut Case) -> Result<usize, Refusal> {
-        let mut buffer = case.buffer.clone();
-        let answer = draft(&issue(case), &case.held, case.held_length, &mut buffer);
-        case.buffer = buffer;
-        answer
+        case.write(draft)
     }
 
     fn call_text(case: &mut Case) -> Result<usize, Refusal> {
-        let mut buffer = case.buffer.clone();
-        let answer = block_text(&issue(case), &case.held, case.held_length, &mut buffer);
-        case.buffer = buffer;
-        answer
+        case.write(block_text)
     }
 
     fn call_append(case: &mut Case) -> Result<usize, Refusal> {
-        let mut held = case.held.clone();
-        let answer = append(
-            &issue(case),
-            &mut held,
-            case.held_length,
-            case.block_signature,
-        );
-        case.held = held;
-        answer
+        case.append(append)
     }
 
     type Call = fn(&mut Case) -> Result<usize, Refusal>;

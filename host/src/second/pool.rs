@@ -103,15 +103,7 @@ mod tests {
     use crate::second::samples::{self, entry, order, Case};
 
     fn call(case: &mut Case) -> Option<Refusal> {
-        offer(
-            &case.genesis,
-            case.now,
-            &case.held,
-            case.held_length,
-            &mut case.pool,
-            case.order,
-        )
-        .err()
+        case.offer(offer).err()
     }
 
     /// Offers an order at slot 20 to one who holds no blocks; u is 5, display 2 at release 40.

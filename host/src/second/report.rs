@@ -78,7 +78,7 @@ mod tests {
     use crate::second::samples::{self, Case, BAD_NOWS, BLOCK};
 
     fn call(case: &mut Case) -> Option<Refusal> {
-        report(&case.genesis, case.now, &case.held, case.held_length).err()
+        case.report(report).err()
     }
 
     /// 01's worked examples: n = 6, t = 1, now 10.

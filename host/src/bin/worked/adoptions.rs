@@ -30,20 +30,11 @@ impl Op for Adopt {
     }
 
     fn answer(&self) -> String {
-        let given = &self.0;
-        let mut buffer = given.held.clone();
-        let adopted = adopt::adopt(
-            &given.genesis,
-            given.now,
-            &mut buffer,
-            given.held_length,
-            &given.delivered,
-            &given.verdicts,
-        );
-        let adopted = told(adopted, |(length, count)| {
+        let mut given = self.0.clone();
+        let adopted = told(given.adopt(adopt::adopt), |(length, count)| {
             format!("length {length} count {}", count.0)
         });
-        format!("{adopted} {}", bytes_text(&buffer))
+        format!("{adopted} {}", bytes_text(&given.held))
     }
 }
 

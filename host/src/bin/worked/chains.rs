@@ -25,9 +25,7 @@ impl Op for Check {
     }
 
     fn answer(&self) -> String {
-        let given = &self.0;
-        let checked = chain::check(&given.genesis, given.now, &given.delivered, &given.verdicts);
-        told(checked, |(count, releases)| {
+        told(self.0.check(chain::check), |(count, releases)| {
             format!("count {} releases{}", count.0, releases_text(&releases))
         })
     }

@@ -12,15 +12,6 @@ use crate::faults::{at, bad_blocks, bad_openings, pairs, stamped, Arguments};
 /// choose GENESIS NOW HELD DELIVERED VERDICTS, where the held chain is a whole slice
 pub struct Choose(pub Arguments);
 
-impl Choose {
-    fn held(&self) -> &[u8] {
-        let Arguments {
-            held, held_length, ..
-        } = &self.0;
-        held.get(..*held_length).unwrap_or(held)
-    }
-}
-
 impl Op for Choose {
     fn word(&self) -> &'static str {
         "choose"
@@ -31,7 +22,7 @@ impl Op for Choose {
         vec![
             given.genesis[..].into(),
             given.now.0.into(),
-            self.held().into(),
+            given.held_chain().into(),
             given.delivered[..].into(),
             given.verdicts[..].into(),
         ]
@@ -39,9 +30,8 @@ impl Op for Choose {
 
     fn answer(&self) -> String {
         let given = &self.0;
-        let (held, delivered) = (self.held(), &given.delivered[..]);
-        let (shown, refused) =
-            adopt::choose(&given.genesis, given.now, held, delivered, &given.verdicts);
+        let (held, delivered) = (given.held_chain(), &given.delivered[..]);
+        let (shown, refused) = given.choose(adopt::choose);
         let shown = match (shown == held, shown == delivered) {
             (true, true) => "either".into(),
             (true, false) => "held".into(),
@@ -61,7 +51,7 @@ fn taken(name: impl Into<String>, given: Arguments) -> Case {
 /// The held bytes are shown.
 fn kept(name: impl Into<String>, given: Arguments, refused: Refusal) -> Case {
     let op = Choose(given);
-    let shown = match op.held() == op.0.delivered {
+    let shown = match op.0.held_chain() == op.0.delivered {
         true => "either",
         false => "held",
     };

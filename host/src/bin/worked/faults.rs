@@ -1,6 +1,6 @@
 //! What the cases of the calls on chains are made of: the samples' arguments of a call, with a fault or two in them.
 pub use host::second::samples::Case as Arguments;
-use host::second::samples::{self, adopting_faults, Edit, EDITS};
+use host::second::samples::{self, adopting_faults, Edit, Fault, EDITS};
 use host::second::Refusal;
 
 /// A refusal of a block, counted from 1.
@@ -89,36 +89,57 @@ impl Pair {
     }
 }
 
+/// A good case with a fault, and with one that comes after it in 01's order.
+fn pair((refused, earlier): &Fault, (also, later): &Fault) -> Pair {
+    let mut given = Arguments::good();
+    later(&mut given);
+    earlier(&mut given);
+    Pair {
+        numbers: [refused.number, also.number],
+        given,
+        refused: *refused,
+    }
+}
+
 /// Every two of adoption's faults. The fault of a stamp is 6 or 7, as asked for.
 pub fn pairs(stamp: u32) -> Vec<Pair> {
     let faults = adopting_faults(stamp);
     let mut pairs = Vec::new();
-    for (place, (refused, earlier)) in faults.iter().enumerate() {
-        for (also, later) in &faults[place + 1..] {
-            let mut given = Arguments::good();
-            later(&mut given);
-            earlier(&mut given);
-            pairs.push(Pair {
-                numbers: [refused.number, also.number],
-                given,
-                refused: *refused,
-            });
-        }
+    for (place, earlier) in faults.iter().enumerate() {
+        pairs.extend(faults[place + 1..].iter().map(|later| pair(earlier, later)));
     }
     pairs
+}
+
+/// The first of these faults together with all the others, which come after it.
+fn with_the_others(faults: &[Fault]) -> (String, Arguments, Refusal) {
+    let mut given = Arguments::good();
+    for (_, fault) in faults.iter().rev() {
+        fault(&mut given);
+    }
+    let refused = faults[0].0;
+    let name = format!("{} and all that come after it", refused.number);
+    (name, given, refused)
 }
 
 /// Each of adoption's faults together with all that come after it.
 pub fn with_all_after(stamp: u32) -> Vec<(String, Arguments, Refusal)> {
     let faults = adopting_faults(stamp);
-    let from = |first: usize| {
-        let mut given = Arguments::good();
-        for (_, fault) in faults[first..].iter().rev() {
-            fault(&mut given);
+    let last = faults.len() - 1;
+    (0..last)
+        .map(|first| with_the_others(&faults[first..]))
+        .collect()
+}
+
+/// Every two of these faults, given in 01's order, and each together with all that come after it.
+pub fn several(faults: &[Fault]) -> Vec<(String, Arguments, Refusal)> {
+    let mut several = Vec::new();
+    for (place, earlier) in faults.iter().enumerate() {
+        for later in faults[place + 1..].iter().rev() {
+            let pair = pair(earlier, later);
+            several.push((pair.name(), pair.given, pair.refused));
         }
-        let refused = faults[first].0;
-        let name = format!("{} and all that come after it", refused.number);
-        (name, given, refused)
-    };
-    (0..faults.len() - 1).map(from).collect()
+        several.push(with_the_others(&faults[place..]));
+    }
+    several
 }

@@ -1,14 +1,14 @@
 //! The next block: drafted, as the text that a host signs, and appended.
 use host::second::block::Block;
-use host::second::issue::{self, Issue};
+use host::second::issue;
 use host::second::order::{Order, Slot};
 use host::second::pool::{Entry, Pool};
 use host::second::samples::{self, entry, order, BLOCK, FILLER};
 use host::second::{refusal, sha256, Refusal};
 
 use crate::case::{bytes_text, case, refused, told, Case, Field, Op, Section};
-use crate::faults::{stamped, Arguments};
-use crate::pools::{bad_before_the_pool, pool_fields, several};
+use crate::faults::{several, stamped, Arguments};
+use crate::pools::{bad_before_the_pool, pool_fields};
 
 #[derive(Clone, Copy, PartialEq)]
 pub enum Call {
@@ -25,10 +25,10 @@ pub struct Issuing(pub Call, pub Arguments);
 
 impl Issuing {
     /// The buffer that the call writes to.
-    fn lent(&self) -> Vec<u8> {
+    fn lent<'a>(&self, given: &'a Arguments) -> &'a [u8] {
         match self.0 {
-            Call::Append => self.1.held.clone(),
-            _ => self.1.buffer.clone(),
+            Call::Append => &given.held,
+            _ => &given.buffer,
         }
     }
 }
@@ -61,23 +61,14 @@ impl Op for Issuing {
     }
 
     fn answer(&self) -> String {
-        let given = &self.1;
-        let issue = Issue {
-            genesis: &given.genesis,
-            now: given.now,
-            pool: &given.pool,
-            controller: given.controller,
-            slot_signature: given.slot_signature,
-        };
-        let mut lent = self.lent();
-        let length = given.held_length;
+        let mut given = self.1.clone();
         let answer = match self.0 {
-            Call::Draft => issue::draft(&issue, &given.held, length, &mut lent),
-            Call::Text => issue::block_text(&issue, &given.held, length, &mut lent),
-            Call::Append => issue::append(&issue, &mut lent, length, given.block_signature),
+            Call::Draft => given.write(issue::draft),
+            Call::Text => given.write(issue::block_text),
+            Call::Append => given.append(issue::append),
         };
         let answer = told(answer, |length| format!("length {length}"));
-        format!("{answer} {}", bytes_text(&lent))
+        format!("{answer} {}", bytes_text(self.lent(&given)))
     }
 }
 
@@ -99,7 +90,7 @@ fn written(call: Call, name: &str, given: &Arguments, before: &[u8], orders: &[O
         Call::Append => (given.held_length, whole),
     };
     let op = Issuing(call, given.clone());
-    let mut lent = op.lent();
+    let mut lent = op.lent(given).to_vec();
     let length = place + bytes.len();
     lent[place..length].copy_from_slice(&bytes);
     let name = format!("{}: {name}", op.word());
@@ -113,7 +104,7 @@ fn issued(name: &str, given: &Arguments, before: &[u8], orders: &[Order]) -> [Ca
 /// Every byte stays.
 fn kept(call: Call, name: &str, given: &Arguments, refusal: Refusal) -> Case {
     let op = Issuing(call, given.clone());
-    let by_hand = format!("{} {}", refused(refusal), bytes_text(&op.lent()));
+    let by_hand = format!("{} {}", refused(refusal), bytes_text(op.lent(given)));
     let name = format!("{}: {name}", op.word());
     case(name, op).by_hand(by_hand)
 }

@@ -5,7 +5,7 @@ use host::second::samples::{self, entry, order, BLOCK};
 use host::second::{refusal, Refusal};
 
 use crate::case::{case, refused, Case, Field, Op, Section};
-use crate::faults::{at, bad_blocks, bad_openings, Arguments};
+use crate::faults::{at, bad_blocks, bad_openings, several, Arguments};
 
 /// offer GENESIS NOW HELD LENGTH DISPLAY EXPECTED NEW COUNT DISPLAY EXPECTED NEW SLOT ..
 pub struct Offer(pub Arguments);
@@ -31,19 +31,10 @@ impl Op for Offer {
     }
 
     fn answer(&self) -> String {
-        let given = &self.0;
-        let mut pool = given.pool.clone();
-        let answer = pool::offer(
-            &given.genesis,
-            given.now,
-            &given.held,
-            given.held_length,
-            &mut pool,
-            given.order,
-        );
-        match answer {
-            Ok(()) => pool_text(&pool),
-            Err(refusal) => kept_text(refusal, &pool),
+        let mut given = self.0.clone();
+        match given.offer(pool::offer) {
+            Ok(()) => pool_text(&given.pool),
+            Err(refusal) => kept_text(refusal, &given.pool),
         }
     }
 }
@@ -312,26 +303,6 @@ pub fn bad_before_the_pool() -> Vec<(String, Arguments, Refusal)> {
         bad.push((name, given, refusal(17)));
     }
     bad
-}
-
-/// Every two of these faults, given in 01's order, and each together with all that come after it.
-pub fn several(faults: &[samples::Fault]) -> Vec<(String, Arguments, Refusal)> {
-    let mut several = Vec::new();
-    for (place, (refused, earlier)) in faults.iter().enumerate() {
-        let mut all = Arguments::good();
-        for (also, later) in faults[place + 1..].iter().rev() {
-            later(&mut all);
-            let mut given = Arguments::good();
-            later(&mut given);
-            earlier(&mut given);
-            let name = format!("{} and {}", refused.number, also.number);
-            several.push((name, given, *refused));
-        }
-        earlier(&mut all);
-        let name = format!("{} and all that come after it", refused.number);
-        several.push((name, all, *refused));
-    }
-    several
 }
 
 fn all_kept(faults: Vec<(String, Arguments, Refusal)>) -> Vec<Case> {
