@@ -69,7 +69,7 @@ impl Chance {
     }
 
     /// An order at these releases, and what it puts there.
-    fn order_at(&mut self, releases: &mut Releases) -> Order {
+    pub fn order_at(&mut self, releases: &mut Releases) -> Order {
         let display = self.of(&[0, 1, 2, 3, 63]);
         let release = &mut releases[display as usize];
         let more = 1 + self.below(200) as u32;

@@ -5,11 +5,12 @@ use super::{
     bad_chains, bad_geneses, bad_lengths, bad_pools, chain, empty_blocks, entry, good_chain, order,
     put, table, verdicts, BAD_NOWS, BLOCK, COUNT, DISPLAY, FILLER, NEW, NOW, SLOT,
 };
+use crate::calls::{Adopt, Append, Check, Choose, Offer, Report, Write};
 use crate::second::chain::LONGEST;
 use crate::second::issue::Issue;
-use crate::second::order::{Order, Slot};
+use crate::second::order::{BlockCount, Order, Releases, Slot};
 use crate::second::pool::Pool;
-use crate::second::{refusal, Refusal};
+use crate::second::{refusal, report, Refusal};
 
 /// The arguments of every call, and its lent buffers.
 #[derive(Debug, Clone, PartialEq, Eq)]
@@ -53,7 +54,7 @@ impl Case {
     }
 
     /// Checks the delivered chain.
-    pub fn check<T>(&self, call: fn(&[u8], Slot, &[u8], &[u8]) -> T) -> T {
+    pub fn check(&self, call: Check) -> Result<(BlockCount, Releases), Refusal> {
         call(&self.genesis, self.now, &self.delivered, &self.verdicts)
     }
 
@@ -62,7 +63,7 @@ impl Case {
         self.held.get(..self.held_length).unwrap_or(&self.held)
     }
 
-    pub fn choose<'a, T>(&'a self, call: fn(&[u8], Slot, &'a [u8], &'a [u8], &[u8]) -> T) -> T {
+    pub fn choose(&self, call: Choose) -> (&[u8], Option<Refusal>) {
         call(
             &self.genesis,
             self.now,
@@ -72,7 +73,7 @@ impl Case {
         )
     }
 
-    pub fn adopt<T>(&mut self, call: fn(&[u8], Slot, &mut [u8], usize, &[u8], &[u8]) -> T) -> T {
+    pub fn adopt(&mut self, call: Adopt) -> Result<(usize, BlockCount), Refusal> {
         call(
             &self.genesis,
             self.now,
@@ -83,11 +84,11 @@ impl Case {
         )
     }
 
-    pub fn report<T>(&self, call: fn(&[u8], Slot, &[u8], usize) -> T) -> T {
+    pub fn report(&self, call: Report) -> Result<report::Report, Refusal> {
         call(&self.genesis, self.now, &self.held, self.held_length)
     }
 
-    pub fn offer<T>(&mut self, call: fn(&[u8], Slot, &[u8], usize, &mut Pool, Order) -> T) -> T {
+    pub fn offer(&mut self, call: Offer) -> Result<(), Refusal> {
         call(
             &self.genesis,
             self.now,
@@ -110,14 +111,14 @@ impl Case {
     }
 
     /// Drafts, or writes the block text, into the buffer.
-    pub fn write<T>(&mut self, call: fn(&Issue, &[u8], usize, &mut [u8]) -> T) -> T {
+    pub fn write(&mut self, call: Write) -> Result<usize, Refusal> {
         let mut buffer = mem::take(&mut self.buffer);
         let answer = call(&self.issue(), &self.held, self.held_length, &mut buffer);
         self.buffer = buffer;
         answer
     }
 
-    pub fn append<T>(&mut self, call: fn(&Issue, &mut [u8], usize, [u8; 64]) -> T) -> T {
+    pub fn append(&mut self, call: Append) -> Result<usize, Refusal> {
         let mut held = mem::take(&mut self.held);
         let answer = call(
             &self.issue(),
