@@ -9,6 +9,7 @@ use crate::second::issue::{self, Issue};
 use crate::second::order::{BlockCount, Order, Releases, Slot};
 use crate::second::pool::{self, Pool};
 use crate::second::report::{self, Report};
+use crate::second::samples::Case;
 use crate::second::{adopt, chain, lent, number, refusal, sha256, walk, Refusal};
 
 type Answer<T> = Result<T, Refusal>;
@@ -211,3 +212,24 @@ pub fn append(
         |held| issue::append(issue, held, held_length, block_signature),
     )
 }
+
+/// A call on a case, made with both.
+pub struct Call {
+    pub name: &'static str,
+    /// The refusals that 01 has for it.
+    pub refusals: &'static [u32],
+    pub make: fn(&mut Case) -> Option<Refusal>,
+}
+
+/// Every call that a case has the arguments of.
+#[rustfmt::skip]
+pub const CALLS: [Call; 8] = [
+    Call { name: "check", refusals: &[1, 2, 16, 3, 4, 5, 6, 7, 8, 9, 10], make: |case| case.check(check).err() },
+    Call { name: "choose", refusals: &[1, 2, 17, 16, 3, 4, 5, 6, 7, 8, 9, 10, 11], make: |case| case.choose(choose).1 },
+    Call { name: "adopt", refusals: &[1, 2, 17, 16, 3, 4, 5, 6, 7, 8, 9, 10, 11, 15], make: |case| case.adopt(adopt).err() },
+    Call { name: "offer", refusals: &[1, 2, 17, 18, 5, 14, 13], make: |case| case.offer(offer).err() },
+    Call { name: "draft", refusals: &[1, 2, 17, 18, 12, 6, 15], make: |case| case.write(draft).err() },
+    Call { name: "block text", refusals: &[1, 2, 17, 18, 12, 6, 15], make: |case| case.write(block_text).err() },
+    Call { name: "append", refusals: &[1, 2, 17, 18, 12, 6, 15], make: |case| case.append(append).err() },
+    Call { name: "report", refusals: &[1, 2, 17], make: |case| case.report(report).err() },
+];

@@ -1,6 +1,7 @@
 //! Chains by chance: one that is held and one that is delivered, most of them with a fault.
 use super::Chance;
 use crate::second::block::Block;
+use crate::second::chain::LONGEST;
 use crate::second::genesis::Genesis;
 use crate::second::order::{Order, Releases, Slot};
 use crate::second::samples::{self, Case, FILLER};
@@ -17,7 +18,7 @@ impl Chance {
         };
         let now = self.clock(&ours, &theirs);
         let bytes = table.bytes();
-        let [mut held, delivered] = [ours, theirs].map(|blocks| self.linked(&bytes, &blocks));
+        let [mut held, mut delivered] = [ours, theirs].map(|blocks| self.linked(&bytes, &blocks));
         let room = held.len().max(delivered.len());
         let rooms = [room, room, room.saturating_sub(1), room + 30, held.len()];
         let held_length = match self.below(20) {
@@ -26,6 +27,9 @@ impl Chance {
             _ => held.len(),
         };
         held.resize(self.of(&rooms), FILLER);
+        if self.once_in(200) {
+            delivered.resize(LONGEST + self.below(2), 0);
+        }
         Case {
             genesis: self.faulty_once_in(25, bytes),
             now,

@@ -19,9 +19,14 @@ impl Chance {
         }
         case.pool = self.pool(case.now.0, &mut releases);
         case.order = self.offered(&mut releases);
+        if self.once_in(30) {
+            case.order.display = self.number();
+        }
         case.controller = opening.genesis.turn(case.now) + u32::from(self.once_in(20));
         let room = case.held.len() + self.of(&[0, 170, 251, 300]);
         case.held.resize(room, FILLER);
+        case.buffer
+            .truncate(self.of(&[400, 400, 251, 192, 187, 103, 98, 97, 0]));
         case.slot_signature = self.array();
         case.block_signature = self.array();
         case
@@ -30,7 +35,12 @@ impl Chance {
     /// A pool of entries that are up to seven slots old, and what they put on these releases. Its count or an entry is bad now and then.
     fn pool(&mut self, now: u32, releases: &mut Releases) -> Pool {
         let most = self.of(&[3, 12, 65]);
-        let entries: Vec<Entry> = (0..self.below(most))
+        let count = if self.once_in(20) {
+            64
+        } else {
+            self.below(most)
+        };
+        let entries: Vec<Entry> = (0..count)
             .map(|_| {
                 let age = self.below(8) as u32;
                 samples::entry(self.offered(releases), now.saturating_sub(age).max(1))

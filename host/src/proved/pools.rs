@@ -122,59 +122,49 @@ fn taken(pool: &raw::Pool) -> Pool {
 
 #[cfg(test)]
 mod tests {
-    use super::*;
-    use crate::both;
+    use crate::both::{Call, CALLS};
     use crate::chance::Chance;
     use crate::second::samples::{self, Case};
 
-    fn offers(case: &mut Case) -> Option<Refusal> {
-        case.offer(both::offer).err()
+    /// The calls that have this refusal.
+    fn calls(number: u32) -> impl Iterator<Item = &'static Call> {
+        CALLS
+            .iter()
+            .filter(move |call| call.refusals.contains(&number))
     }
-
-    fn drafts(case: &mut Case) -> Option<Refusal> {
-        case.write(both::draft).err()
-    }
-
-    fn texts(case: &mut Case) -> Option<Refusal> {
-        case.write(both::block_text).err()
-    }
-
-    fn appends(case: &mut Case) -> Option<Refusal> {
-        case.append(both::append).err()
-    }
-
-    type Call = fn(&mut Case) -> Option<Refusal>;
-    const CALLS: [Call; 4] = [offers, drafts, texts, appends];
 
     #[test]
     fn good_and_bad_cases() {
-        for call in CALLS {
-            samples::answers(None, "no fault", Case::good(), call);
-            samples::refuses_bad_openings(call);
-            samples::refuses_bad_held(call);
-            samples::refuses_bad_pools(call);
+        for call in calls(18) {
+            samples::answers(None, "no fault", Case::good(), call.make);
+            samples::refuses_bad_openings(call.make);
+            samples::refuses_bad_held(call.make);
+            samples::refuses_bad_pools(call.make);
         }
     }
 
     #[test]
     fn the_earliest_of_several_faults() {
-        samples::refuses_in_order(&samples::pooling_faults(), offers);
-        for call in [drafts, texts, appends] {
-            samples::refuses_in_order(&samples::issuing_faults(), call);
+        for call in calls(14) {
+            samples::refuses_in_order(&samples::pooling_faults(), call.make);
+        }
+        for call in calls(12) {
+            samples::refuses_in_order(&samples::issuing_faults(), call.make);
         }
     }
 
     #[test]
     fn by_chance() {
         let mut chance = Chance::of_seed(7);
-        let mut accepted = [0; 4];
+        let mut accepted = [0; CALLS.len()];
         for _ in 0..4_000 {
             let case = chance.issuing();
-            for (accepted, call) in accepted.iter_mut().zip(CALLS) {
-                *accepted += u32::from(call(&mut case.clone()).is_none());
+            for (accepted, call) in accepted.iter_mut().zip(calls(18)) {
+                *accepted += u32::from((call.make)(&mut case.clone()).is_none());
             }
         }
-        let often = accepted.iter().all(|count| (400..3_600).contains(count));
-        assert!(often, "{accepted:?} accepted");
+        let often = |count| (400..3_600).contains(count);
+        assert_eq!(calls(18).count(), 4);
+        assert!(accepted[..4].iter().all(often), "{accepted:?} accepted");
     }
 }

@@ -17,7 +17,7 @@ pub type Letter = (usize, Chain);
 pub struct Faulty {
     /// The chain of no blocks, and those that correct controllers have issued, in their order.
     seen: Vec<Chain>,
-    /// Chains that nobody was sent yet.
+    /// Chains of their own, sent to some or to nobody yet.
     hidden: Vec<Chain>,
 }
 

@@ -9,7 +9,9 @@ use crate::case::{boxed_case, Case, Op, Section};
 use crate::chains::Check;
 use crate::choices::Choose;
 use crate::held::Held;
+use crate::issues::{Issuing, CALLS};
 use crate::orders::{At, Take, Valid};
+use crate::pools::Offer;
 use crate::tables::{Depth, Key, Table, Turn};
 use crate::walks::Steps;
 use crate::writes::{Front, Length, Parts, SlotText, Write};
@@ -48,7 +50,7 @@ fn op(chance: &mut Chance) -> Box<dyn Op> {
     let at = chance.place(block.len());
     let order = chance.order();
     let release = chance.of(&[order.expected, order.expected, order.new]);
-    match chance.below(18) {
+    match chance.below(20) {
         0 => Box::new(Valid(At { release, order })),
         1 => Box::new(Take(At { release, order })),
         2 => Box::new(Table(table)),
@@ -75,6 +77,8 @@ fn op(chance: &mut Chance) -> Box<dyn Op> {
         12 | 13 => Box::new(Check(chance.exchange())),
         14 => Box::new(Held(chance.exchange())),
         15 => Box::new(Choose(chance.exchange())),
+        16 => Box::new(Offer(chance.issuing())),
+        17 => Box::new(Issuing(chance.of(&CALLS), chance.issuing())),
         _ => Box::new(Adopt(chance.exchange())),
     }
 }
