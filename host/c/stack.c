@@ -1,0 +1,117 @@
+/* How deep the stack gets in each call of include/ledger.h, for the table in docs/BENCHMARKS.md: its frames, its arguments by value and its answer.
+   Each call is made once on good arguments, on a stack that was painted before; the lowest byte that is no longer paint tells. */
+#define _XOPEN_SOURCE 600
+#include "sample.h"
+
+#include <pthread.h>
+#include <stdio.h>
+#include <stdlib.h>
+
+#define STACK_BYTES (1 << 18)
+#define PAINT 0xA5
+
+static struct chain sample;
+static const uint8_t verdicts[2] = {LEDGER_GOOD_VERDICT, LEDGER_GOOD_VERDICT};
+static const ledger_slot now = {20};
+static uint8_t held[3 * LEDGER_BLOCK_BYTES];
+static uint8_t out[LEDGER_BLOCK_BYTES];
+static ledger_genesis table;
+static ledger_block block;
+static ledger_pool pool;
+static ledger_order order = {.display = 2, .expected = 42, .new_release = 43};
+static ledger_signature signature;
+
+/* What is left of an answer: the number of its refusal, which must be 0. */
+static volatile uint32_t refusal;
+
+#define G sample.genesis, sample.genesis_length
+#define HELD held, sizeof held, sample.length
+
+static void read_number(void) { refusal = ledger_read_number(G, 0).refusal; }
+static void write_number(void) { refusal = ledger_write_number(out, sizeof out, 0, 300).refusal; }
+static void digest(void) { refusal = ledger_digest(G).refusal; }
+static void read_genesis(void) { refusal = ledger_read_genesis(G).refusal; }
+static void find_key(void) { refusal = ledger_find_key(G, 6).refusal; }
+static void turn(void) { refusal = ledger_turn(table, now) - 2; }
+static void depth(void) { refusal = (uint32_t)ledger_depth(table) - 4; }
+static void read_block(void) { refusal = ledger_read_block(sample.bytes, sample.length, 0).refusal; }
+static void write_block(void) { refusal = ledger_write_block(out, sizeof out, 0, block).refusal; }
+static void slot_text(void) { refusal = ledger_slot_text(out, sizeof out, now).refusal; }
+static void walk_step(void) { refusal = ledger_walk_step(sample.bytes, sample.length, 0).refusal; }
+static void check(void) { refusal = ledger_check(G, now, sample.bytes, sample.length, verdicts, 2).refusal; }
+static void choose(void) { refusal = ledger_choose(G, now, held, sample.first, sample.bytes, sample.length, verdicts, 2).refusal; }
+static void adopt(void) {
+    refusal = ledger_adopt(G, now, held, sizeof held, sample.first, sample.bytes, sample.length, verdicts, 2).refusal;
+}
+static void pool_order(void) { refusal = ledger_pool_order(G, now, HELD, pool, order).refusal; }
+static void draft(void) { refusal = ledger_draft(G, now, HELD, pool, 2, signature, out, sizeof out).refusal; }
+static void block_text(void) { refusal = ledger_block_text(G, now, HELD, pool, 2, signature, out, sizeof out).refusal; }
+static void append(void) { refusal = ledger_append(G, now, HELD, pool, 2, signature, signature).refusal; }
+static void report(void) { refusal = ledger_report(G, now, HELD).refusal; }
+
+struct call {
+    const char *name;
+    void (*make)(void);
+};
+
+#define CALL(name) {"`ledger_" #name "`", name}
+
+static const struct call calls[] = {
+    CALL(read_number), CALL(write_number), CALL(digest),     CALL(read_genesis), CALL(find_key),   CALL(turn),       CALL(depth),
+    CALL(read_block),  CALL(write_block),  CALL(slot_text),  CALL(walk_step),    CALL(check),      CALL(choose),     CALL(adopt),
+    CALL(pool_order),  CALL(draft),        CALL(block_text), CALL(append),       CALL(report),
+};
+
+static volatile uint8_t *stack;
+static size_t used;
+
+/* Paints what is below its own frame, makes a call, and looks for the lowest byte that has changed. */
+static void *measured(void *given) {
+    const struct call *call = given;
+    volatile uint8_t *frame;
+    __asm__ volatile("mov %%rsp, %0" : "=r"(frame));
+    size_t base = (size_t)(frame - stack);
+    for (size_t i = 0; i < base; i++)
+        stack[i] = PAINT;
+    call->make();
+    size_t lowest = 0;
+    while (lowest < base && stack[lowest] == PAINT)
+        lowest++;
+    used = base - lowest;
+    return NULL;
+}
+
+/* Makes a call on a stack of its own. */
+static void row(const struct call *call) {
+    pthread_attr_t own;
+    pthread_t thread;
+    if (pthread_attr_init(&own) != 0 || pthread_attr_setstack(&own, (void *)stack, STACK_BYTES) != 0 ||
+        pthread_create(&thread, &own, measured, (void *)call) != 0 || pthread_join(thread, NULL) != 0 || refusal != 0) {
+        printf("%s: not measured, refusal %u\n", call->name, (unsigned)refusal);
+        exit(EXIT_FAILURE);
+    }
+    pthread_attr_destroy(&own);
+    printf("| %s | %zu |\n", call->name, used);
+}
+
+/* Two blocks are held, and an order is pooled. */
+static void make_sample(void) {
+    chain_of(&sample);
+    memcpy(held, sample.bytes, sample.length);
+    table = ledger_read_genesis(G).table;
+    block = block_after(G, 1, 40);
+    pool = ledger_pool_order(G, now, HELD, pool, order).pool;
+    order = (ledger_order){.display = 2, .expected = 43, .new_release = 44};
+}
+
+int main(void) {
+    void *memory;
+    if (posix_memalign(&memory, 4096, STACK_BYTES) != 0)
+        return EXIT_FAILURE;
+    stack = memory;
+    make_sample();
+    printf("| call | bytes of stack |\n|---|---|\n");
+    for (size_t i = 0; i < sizeof calls / sizeof *calls; i++)
+        row(&calls[i]);
+    return EXIT_SUCCESS;
+}

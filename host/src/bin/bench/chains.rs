@@ -1,0 +1,144 @@
+//! Checking and adopting a chain against the second implementation, and against the digests of its blocks.
+use std::hint::black_box;
+
+use host::second::order::{BlockCount, Slot};
+use host::second::samples;
+use host::{proved, second};
+
+use crate::{keep, least};
+
+/// A good chain of the longest blocks, a block in each slot from 1.
+pub struct Chain {
+    pub genesis: Vec<u8>,
+    pub bytes: Vec<u8>,
+    verdicts: Vec<u8>,
+    /// The first slot at which every block is admitted from outside.
+    pub now: Slot,
+}
+
+impl Chain {
+    pub fn new(blocks: u32) -> Chain {
+        let (genesis, bytes) = samples::longest_chain(blocks);
+        Chain {
+            genesis,
+            bytes,
+            verdicts: samples::verdicts(blocks as usize),
+            now: Slot(blocks + 1),
+        }
+    }
+
+    /// The blocks one by one.
+    pub fn blocks(&self) -> Vec<&[u8]> {
+        let mut blocks = Vec::new();
+        let mut at = 0;
+        while let Some((_, end)) = second::walk::step(&self.bytes, at).unwrap() {
+            blocks.push(&self.bytes[at..end]);
+            at = end;
+        }
+        blocks
+    }
+}
+
+/// A row on chains: the proved call's time, also for each of the blocks it judges, over the proved digests of these blocks one by one, and
+/// how many times as fast as the second implementation it is.
+pub fn row(name: &str, blocks: &[&[u8]], proved: &mut dyn FnMut(), second: &mut dyn FnMut()) {
+    let mut digests = || {
+        for block in blocks {
+            keep(proved::digest(black_box(block)));
+        }
+    };
+    let times = least(1000, &mut [proved, &mut digests, second]);
+    println!(
+        "| {name} | {:.1} µs | {:.2} µs | {:.2} | {:.2} |",
+        times[0] * 1e6,
+        times[0] * 1e6 / blocks.len() as f64,
+        times[0] / times[1],
+        times[2] / times[0]
+    );
+}
+
+fn checks(blocks: u32) {
+    let chain = &Chain::new(blocks);
+    let (genesis, now, verdicts) = (&chain.genesis, chain.now, &chain.verdicts);
+    let expected = second::chain::check(genesis, now, &chain.bytes, verdicts);
+    assert_eq!(expected.map(|(count, _)| count), Ok(BlockCount(blocks)));
+    assert_eq!(
+        proved::check(genesis, now, &chain.bytes, verdicts),
+        expected
+    );
+    row(
+        &format!("check of {blocks} blocks"),
+        &chain.blocks(),
+        &mut || {
+            keep(proved::check(
+                genesis,
+                now,
+                black_box(&chain.bytes),
+                verdicts,
+            ))
+        },
+        &mut || {
+            keep(second::chain::check(
+                genesis,
+                now,
+                black_box(&chain.bytes),
+                verdicts,
+            ))
+        },
+    );
+}
+
+/// Adopts a chain where its first blocks, so many of them, are held: they are there after each turn too.
+fn adopts(blocks: u32, held: usize) {
+    let chain = &Chain::new(blocks);
+    let (genesis, now, verdicts) = (&chain.genesis, chain.now, &chain.verdicts);
+    let mut judged = chain.blocks();
+    let length = judged[..held].iter().map(|block| block.len()).sum();
+    judged.extend_from_within(..held);
+    let mut first = chain.bytes.clone();
+    let mut other = chain.bytes.clone();
+    let expected = Ok((chain.bytes.len(), BlockCount(blocks)));
+    let delivered = &chain.bytes;
+    assert_eq!(
+        proved::adopt(genesis, now, &mut first, length, delivered, verdicts),
+        expected
+    );
+    assert_eq!(
+        second::adopt::adopt(genesis, now, &mut other, length, delivered, verdicts),
+        expected
+    );
+    row(
+        &format!("adoption of {blocks} blocks where {held} are held"),
+        &judged,
+        &mut || {
+            keep(proved::adopt(
+                genesis,
+                now,
+                black_box(&mut first),
+                length,
+                delivered,
+                verdicts,
+            ))
+        },
+        &mut || {
+            keep(second::adopt::adopt(
+                genesis,
+                now,
+                black_box(&mut other),
+                length,
+                delivered,
+                verdicts,
+            ))
+        },
+    );
+}
+
+pub fn table() {
+    println!("| call | proved | for each block | over its blocks' digests | against Rust |");
+    println!("|---|---|---|---|---|");
+    for blocks in [64, 128, 255] {
+        checks(blocks);
+    }
+    adopts(255, 0);
+    adopts(255, 254);
+}
