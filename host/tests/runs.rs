@@ -19,9 +19,10 @@ fn runs(n: u32, t: u32, slots: u32, seeds: u64) -> Vec<Account> {
         .collect()
 }
 
-/// Sees that blocks were settled, and that the faulty ones were not idle: chains differed, and bad ones were refused.
+/// Sees that blocks were settled and orders pooled, and that the faulty ones were not idle: chains differed, and bad ones were refused.
 fn were_disturbed(accounts: &[Account]) {
     assert!(accounts.iter().all(|account| account.settled > 20));
+    assert!(accounts.iter().all(|account| account.pooled > 20));
     assert!(accounts.iter().any(|account| account.forks > 0));
     let refused: BTreeSet<u32> = accounts
         .iter()

@@ -8,7 +8,8 @@ use std::rc::Rc;
 
 use crate::calls::Calls;
 use crate::chance::Chance;
-use crate::second::chain::LONGEST;
+use crate::second::chain::{self, LONGEST};
+use crate::second::genesis::Opening;
 use crate::second::issue::Issue;
 use crate::second::order::{Releases, Slot};
 use crate::second::pool::Pool;
@@ -33,6 +34,8 @@ pub struct Account {
     /// In how many slots two correct controllers held different chains after their deliveries.
     pub forks: u32,
     pub adopted: u32,
+    /// How many orders were pooled.
+    pub pooled: u32,
     /// How often an adoption was refused, by number.
     pub refused: BTreeMap<u32, u32>,
 }
@@ -174,18 +177,18 @@ impl<'a> Run<'a> {
         Ok(())
     }
 
-    /// Orders for some of the correct controllers, most of them valid behind what is settled.
+    /// Orders for some of the correct controllers, most of them valid behind what they hold.
     fn offer(&mut self, now: Slot) {
-        let mut releases = self.station.genesis.releases;
         for _ in 0..self.chance.below(3) {
             let place = self.chance.below(self.correct.len());
             let one = &mut self.correct[place];
+            let opening = Opening::new(&self.station.bytes, now).unwrap();
+            let held = chain::summary(&opening, &one.held, one.length).unwrap();
+            let order = self.chance.order_at(&mut held.whole.releases.clone());
             let genesis = &self.station.bytes;
-            if let Ok(report) = (self.calls.report)(genesis, now, &one.held, one.length) {
-                releases = report.releases;
-            }
-            let order = self.chance.order_at(&mut releases);
-            let _ = (self.calls.offer)(genesis, now, &one.held, one.length, &mut one.pool, order);
+            let offered =
+                (self.calls.offer)(genesis, now, &one.held, one.length, &mut one.pool, order);
+            self.account.pooled += u32::from(offered.is_ok());
         }
     }
 
