@@ -10,7 +10,6 @@ use lib.ListN.{length, getD, getD-replicate, length-replicate}
 use borrow.Author.Tests.{lt-ltb, eq-eqb, eqb-true, eqb-false, ne-eqb}
 use Rattle.laws.specs.Pick.{pick}
 use Rattle.laws.specs.Told.{gives}
-use Rattle.laws.specs.Fold.{folded}
 use Rattle.laws.specs.Format.{Bytes}
 use Rattle.laws.proofs.Every.{within-here}
 use Rattle.laws.proofs.Told.{gives-same}
@@ -172,11 +171,7 @@ first-passed i is-correct = by-turn (eqb 1 i) refl
 
 held-next : (i k : ℕ) → k < 5 → Between i k (afterSlot run i (suc k)) → State (suc (suc k)) (inSlot run i (suc (suc k))) (given i k)
 held-next i k h before =
-    subst
-    (λ (β : Bool). State (suc (suc k))
-    (folded (afterEvent genesis (suc (suc k))) (afterSlot run i (suc k)) (pick β (delivery (chainBytes (given i k)) verdicts ∷ []) [])) (given i k))
-    (sym (lt-ltb k 5 h))
-    (delivered-state k (omega arith) (afterSlot run i (suc k)) (before .blocks) (given i k) (before .state) (given-good i k (omega arith)) (before .full))
+    delivered-state k (omega arith) (afterSlot run i (suc k)) (before .blocks) (given i k) (before .state) (given-good i k (omega arith)) (before .full)
 
 given-in-turn : (k : ℕ) → given (suc (suc k)) k ≡ chain k
 given-in-turn zero = refl

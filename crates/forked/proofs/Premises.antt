@@ -2,19 +2,12 @@
 -- Assumes nothing.
 use Prim.Native.Nat.{ℕ, zero, suc, _<_, _≤_}
 use mathlib.Core.Path.{_≡_, refl, sym, ap, _∙_, subst}
-use mathlib.Core.Bool.{Bool, true}
 use mathlib.Core.List.{List, [], _∷_, _++_}
 use native.Mathlib.Omega.{arith}
-use lib.Dec.{ltb}
 use lib.ListN.{length, getD, length-append}
-use borrow.Author.Tests.{lt-ltb, le-ltb, ltb-true, eqb-false}
-use Rattle.laws.specs.Pick.{pick}
-use Rattle.laws.specs.Every.{every}
+use borrow.Author.Tests.{eqb-false}
 use Rattle.laws.specs.Format.{Bytes, Each}
-use Rattle.laws.proofs.Bytes.{bytes-nil, bytes-cons}
-use Rattle.laws.proofs.Cases.{lt-cases}
 use Rattle.laws.proofs.Each.{each-parts}
-use Rattle.laws.proofs.Every.{both-true}
 use Rattle.order.specs.declared.Order.{Order}
 use Rattle.genesis.specs.Genesis.{turn}
 use Rattle.block.specs.Block.{Parts, Fits}
@@ -24,7 +17,7 @@ use Rattle.agreement.specs.Core.{howMany}
 use Rattle.pool.specs.Pool.{room}
 use Rattle.runs.proofs.Pools.{each-zeros}
 use Rattle.runs.specs.Runs.{Event, delivery, offer, correct, afterSlot, holds, issued, Among, Encounter, in-delivery, as-held, as-issued, InRun, OfRun, Typed, LastOf, Premises}
-use Rattle.forked.specs.Forked.{genesis, table, next, other, chain, given, verdicts, events, run}
+use Rattle.forked.specs.Forked.{table, next, other, chain, given, verdicts, events, run}
 use Rattle.forked.proofs.Blocks.{signed, sealed, Named, in-turn, forked, Good, chain-good, given-good}
 use Rattle.forked.proofs.Held.{reads, full, buffer-bytes, three, held-in-slot, issued-in-slot}
 use Rattle.forked.proofs.Different.{one-digest-one-block, not-the-genesis}
@@ -60,45 +53,41 @@ isOffer (delivery bytes v) = 0
 isOffer (offer order) = 1
 
 -- what a controller meets in slot k + 2
-met-in-slot : (e : Event) (i k : ℕ) → Among e (events i (suc (suc k))) → (k < 5) × (e ≡ delivery (chainBytes (given i k)) verdicts)
-met-in-slot e i k among =
-    lt-cases k 5 (λ less. (less, the-only e _ (subst if-before (lt-ltb k 5 less) among))) (λ more. absurd (nowhere e (subst if-before (le-ltb k 5 more) among)))
-  where
-    if-before : Bool → Type 0
-    if-before β = Among e (pick β (delivery (chainBytes (given i k)) verdicts ∷ []) [])
+met-in-slot : (e : Event) (i k : ℕ) → Among e (events i (suc (suc k))) → e ≡ delivery (chainBytes (given i k)) verdicts
+met-in-slot e i k among = the-only e (delivery (chainBytes (given i k)) verdicts) among
 
-delivered-bytes : (i slot : ℕ) (bytes v : List ℕ) → Among (delivery bytes v) (events i slot) → Bytes bytes
+delivered-bytes : (i slot : ℕ) → InRun run slot → (bytes v : List ℕ) → Among (delivery bytes v) (events i slot) → Bytes bytes
 unfolding bytesOf
-delivered-bytes i zero bytes v among = absurd (nowhere _ among)
-delivered-bytes i (suc zero) bytes v among = absurd (nowhere _ among)
-delivered-bytes i (suc (suc k)) bytes v among =
-    let (less, e) = met-in-slot (delivery bytes v) i k among in
+delivered-bytes i zero in-run bytes v among = absurd (nowhere _ among)
+delivered-bytes i (suc zero) in-run bytes v among = absurd (nowhere _ among)
+delivered-bytes i (suc (suc k)) (low, high) bytes v among =
+    let e = met-in-slot (delivery bytes v) i k among in
     subst Bytes (sym (ap bytesOf e)) (what-is-written-of-blocks-is-bytes (given i k) (given-good i k (omega arith) .fit))
 
 no-offer : {P : Type 0} (i slot : ℕ) (order : Order) → Among (offer order) (events i slot) → P
 unfolding isOffer
 no-offer i zero order among = absurd (nowhere _ among)
 no-offer i (suc zero) order among = absurd (nowhere _ among)
-no-offer i (suc (suc k)) order among = absurd (omega (arith, ap isOffer (met-in-slot (offer order) i k among .1)))
+no-offer i (suc (suc k)) order among = absurd (omega (arith, ap isOffer (met-in-slot (offer order) i k among)))
 
 typed : (i : ℕ) → Typed run i
 typed i = record {
   buffer = buffer-bytes;
   pool = each-zeros room;
-  deliveries = λ slot in-run. delivered-bytes i slot;
+  deliveries = delivered-bytes i;
   events = λ slot in-run order among. no-offer i slot order among;
   offers = λ slot in-run order among. absurd (nowhere order among);
   signatures = λ slot in-run is-turn. signed;
   seals = λ slot in-run is-turn. sealed;
 }
 
-verdicts-are-true : (i slot : ℕ) → (bytes v : List ℕ) → Among (delivery bytes v) (events i slot) → (before : List Parts) (p : Parts) (rest : List ℕ)
+verdicts-are-true : (i slot : ℕ) → InRun run slot → (bytes v : List ℕ) → Among (delivery bytes v) (events i slot) → (before : List Parts) (p : Parts) (rest : List ℕ)
     → bytes ≡ chainBytes (before ++ (p ∷ [])) ++ rest → Each Fits (before ++ (p ∷ [])) → getD v (length before) 0 ≡ 3
 unfolding bytesOf verdictsOf
-verdicts-are-true i zero bytes v among before p rest is fit = absurd (nowhere _ among)
-verdicts-are-true i (suc zero) bytes v among before p rest is fit = absurd (nowhere _ among)
-verdicts-are-true i (suc (suc k)) bytes v among before p rest is fit =
-    let (less, e) = met-in-slot (delivery bytes v) i k among in
+verdicts-are-true i zero in-run bytes v among before p rest is fit = absurd (nowhere _ among)
+verdicts-are-true i (suc zero) in-run bytes v among before p rest is fit = absurd (nowhere _ among)
+verdicts-are-true i (suc (suc k)) (low, high) bytes v among before p rest is fit =
+    let e = met-in-slot (delivery bytes v) i k among in
     let good = given-good i k (omega arith) in
     let (others, whole) = bytes-at-the-front-are-blocks-at-the-front (given i k) (before ++ (p ∷ [])) rest (good .fit) fit (sym (ap bytesOf e) ∙ is) in
     ap (λ (l : List ℕ). getD l (length before) 0) (ap verdictsOf e)
@@ -114,7 +103,7 @@ reaches : (slot i : ℕ) → 1 ≤ slot → slot < 6 → correct run (turn table
 reaches zero i low high good = absurd (omega arith)
 reaches (suc zero) i low high good = absurd (first-is-faulty good)
 reaches (suc (suc k)) i low high good =
-    (verdicts, ([], [], rw (lt-ltb (suc k) 5 (omega arith)) (ap (λ (l : List ℕ). delivery l verdicts ∷ []) (sym (issued-in-slot k (omega arith))))))
+    (verdicts, ([], [], ap (λ (l : List ℕ). delivery l verdicts ∷ []) (sym (issued-in-slot k (omega arith)))))
 
 -- ---- the blocks of the run
 -- bytes that are blocks of the two kinds
@@ -133,12 +122,12 @@ of-good bytes k blocks good e = record { blocks = blocks; are = e; fit = good .f
 
 known : (i slot : ℕ) (bytes : List ℕ) → correct run i → InRun run slot → Encounter run i slot bytes → Known bytes
 unfolding bytesOf
-known i zero bytes is-correct (low, high) afterEvent = absurd (omega arith)
+known i zero bytes is-correct (low, high) encounter = absurd (omega arith)
 known i (suc zero) bytes is-correct in-run (in-delivery v among) = absurd (nowhere _ among)
 known i (suc zero) bytes is-correct in-run (as-held e) = record { blocks = []; are = e ∙ none-held i; fit = tt; named = tt }
 known i (suc zero) bytes is-correct in-run (as-issued is-turn e) = absurd (eqb-false i 1 (is-correct .2) (sym is-turn))
 known i (suc (suc k)) bytes is-correct (low, high) (in-delivery v among) =
-    of-good bytes k (given i k) (given-good i k (omega arith)) (ap bytesOf (met-in-slot (delivery bytes v) i k among .1))
+    of-good bytes k (given i k) (given-good i k (omega arith)) (ap bytesOf (met-in-slot (delivery bytes v) i k among))
 known i (suc (suc k)) bytes is-correct (low, high) (as-held e) =
     of-good bytes k (given i k) (given-good i k (omega arith)) (e ∙ held-in-slot i is-correct k (omega arith) .keeps .are)
 known i (suc (suc k)) bytes is-correct (low, high) (as-issued is-turn e) =
@@ -159,24 +148,12 @@ the-issued-one p (in-turn (suc k) h) slot good high e =
     (chain k, chain-good (suc k) h .fit, issued-in-slot k (omega arith))
 the-issued-one p forked slot good high e = absurd (first-is-faulty (subst (λ (n : ℕ). correct run (turn table n)) (sym e) good))
 
--- bytes by a test that computes
-tested-bytes : (l : List ℕ) → every (λ b. ltb b 256) l ≡ true → Bytes l
-tested-bytes [] e = bytes-nil
-tested-bytes (b ∷ l) e =
-    let (here, rest) = both-true (ltb b 256) (every (λ b. ltb b 256) l) e in
-    bytes-cons b l (ltb-true b 256 here) (tested-bytes l rest)
-
-genesis-bytes : Bytes genesis
-unfolding genesis
-genesis-bytes = tested-bytes genesis refl
-
 few : howMany (run .faulty) 0 6 ≤ 1
 unfolding howMany
 few = omega arith
 
 pub premises : Premises run
 premises = record {
-  genesis = genesis-bytes;
   reads = reads;
   few = few;
   ends = omega arith;
@@ -185,7 +162,7 @@ premises = record {
   typed = λ i is-correct. typed i;
   reaches = λ slot i low high good is-correct another. reaches slot i low high good;
   verdicts = λ i slot is-correct in-run bytes v among before p rest is fit.
-      (λ good. refl, λ good. verdicts-are-true i slot bytes v among before p rest is fit);
+      (λ good. refl, λ good. verdicts-are-true i slot in-run bytes v among before p rest is fit);
   issued-verifies = λ slot in-run good p last. refl;
   no-other = λ slot in-run good p of-run stamped verifies. the-issued-one p (named p of-run) slot good (in-run .1) stamped;
   digests = λ p q of-run of-run′ e. one-digest-one-block p q (named p of-run) (named q of-run′) e;

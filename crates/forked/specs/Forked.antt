@@ -5,7 +5,7 @@
 use Prim.Native.Nat.{ℕ, zero, suc}
 use mathlib.Core.Bool.{true}
 use mathlib.Core.List.{List, [], _∷_, _++_}
-use lib.Dec.{ltb, leb, eqb}
+use lib.Dec.{leb, eqb}
 use lib.ListN.{replicate}
 use Rattle.laws.specs.Pick.{pick}
 use Rattle.order.specs.declared.Order.{Order}
@@ -74,7 +74,7 @@ verdicts = replicate 256 3
 abbrev pub events : (controller slot : ℕ) → List Event
 events i zero = []
 events i (suc zero) = []
-events i (suc (suc k)) = pick (ltb k 5) (delivery (chainBytes (given i k)) verdicts ∷ []) []
+events i (suc (suc k)) = delivery (chainBytes (given i k)) verdicts ∷ []
 
 unfoldable pub buffer : List ℕ
 buffer = replicate longest 0

@@ -45,11 +45,14 @@ abbrev pub sizeOr : {A : Type 0} → ℕ → (A → ℕ) → Told A → ℕ
 sizeOr before size (gives a) = size a
 sizeOr before size (refuses number place) = before
 
--- an event is a call: adopt, or pool an order
+-- an event is a call: adopt, or pool an order; what the call adopt answers, and what is kept then
+abbrev pub adopts : (genesis : List ℕ) (clock : ℕ) → Node → (bytes verdicts : List ℕ) → Told (ℕ × ℕ)
+adopts genesis clock s bytes verdicts = adopted (accepted genesis clock (s .buffer) (s .size) bytes verdicts) (s .buffer) bytes
+
 abbrev pub afterEvent : (genesis : List ℕ) (clock : ℕ) → Node → Event → Node
 afterEvent genesis clock s (delivery bytes verdicts) = record {
   buffer = adopting (accepted genesis clock (s .buffer) (s .size) bytes verdicts) (s .buffer) bytes;
-  size = sizeOr (s .size) (λ a. a .0) (adopted (accepted genesis clock (s .buffer) (s .size) bytes verdicts) (s .buffer) bytes);
+  size = sizeOr (s .size) (λ a. a .0) (adopts genesis clock s bytes verdicts);
   pool = s .pool;
 }
 afterEvent genesis clock s (offer order) = record {
@@ -175,7 +178,6 @@ LastOf chain p = (before : List Parts) × Each Fits (before ++ (p ∷ [])) × (c
 
 pub record Premises (r : Run) : Type 0 where
   -- "n at least 5t + 1. Correct ones share one genesis with this n and t": a table that reads has n at least 5t + 1
-  pub genesis : Bytes (r .genesis)
   pub reads : genesisOf (r .genesis) ≡ gives (r .table)
   -- "n controllers, at most t faulty"
   pub few : howMany (r .faulty) 0 (r .table .n) ≤ r .table .t
@@ -201,9 +203,6 @@ pub record Premises (r : Run) : Type 0 where
   pub not-the-genesis : (p : Parts) → OfRun r p → linkOf (blockBytes p) ≡ linkOf (r .genesis) → ⊥
 
 -- ---- what comes of a delivery
-abbrev pub adopts : (genesis : List ℕ) (clock : ℕ) → Node → (bytes verdicts : List ℕ) → Told (ℕ × ℕ)
-adopts genesis clock s bytes verdicts = adopted (accepted genesis clock (s .buffer) (s .size) bytes verdicts) (s .buffer) bytes
-
 -- the delivered chain is what is held then, or as many blocks are held already: 11
 pub data AdoptedOrEqualled (bytes : List ℕ) : Told (ℕ × ℕ) → Type 0 where
   adopted-now : (count : ℕ) → AdoptedOrEqualled bytes (gives (length bytes, count))
