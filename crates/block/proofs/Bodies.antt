@@ -15,7 +15,7 @@ use Rattle.laws.proofs.Cases.{lt-cases}
 use Rattle.laws.proofs.Every.{within-true}
 use Rattle.laws.proofs.Repeated.{repeated-moves, repeated-length}
 use Rattle.number.specs.Number.{numberAt}
-use Rattle.number.proofs.Groups.{number-moves}
+use Rattle.number.proofs.Groups.{number-ends}
 use Rattle.laws.proofs.Told.{then-assoc, then-unless, then-gives, then-refuses, unless-gives, gives-same}
 use Rattle.order.specs.declared.Order.{Order}
 use Rattle.block.specs.Block.{Parts, orderAt, ordersAt, blockAt, numberIn}
@@ -102,7 +102,7 @@ number-in-moves : (least most : ℕ) (s : List ℕ) (at : ℕ) (r : Found ℕ) �
 number-in-moves least most s at r e =
     let (q, reads, fits) = then-gives (numberAt s at) _ r e in
     let (inside, is) = unless-gives (within least most (q .value)) 5 0 (gives q) r fits in
-    subst (λ (q : Found ℕ). (at < q .next) × (q .value ≤ most)) (gives-same is) (number-moves s at q reads, within-true _ _ _ inside .1)
+    subst (λ (q : Found ℕ). (at < q .next) × (q .value ≤ most)) (gives-same is) (number-ends s at q reads .moves, within-true _ _ _ inside .1)
 
 order-moves : (s : List ℕ) (at : ℕ) (r : Found Order) → orderAt s at ≡ gives r → at ≤ r .next
 order-moves s at r e =
@@ -110,8 +110,8 @@ order-moves s at r e =
     let (expected, reads′, rest′) = then-gives (numberAt s (display .next)) _ r rest in
     let (new, reads″, is) = then-gives (numberAt s (expected .next)) _ r rest′ in
     let (one, _) = number-in-moves 0 63 s at display reads in
-    let two = number-moves s (display .next) expected reads′ in
-    let three = number-moves s (expected .next) new reads″ in
+    let two = number-ends s (display .next) expected reads′ .moves in
+    let three = number-ends s (expected .next) new reads″ .moves in
     subst (λ (q : Found Order). at ≤ q .next) (gives-same is) (omega arith)
 
 orders-move : (s : List ℕ) (at : ℕ) (r : Found (List Order)) → ordersAt s at ≡ gives r → (at < r .next) × (length (r .value) ≤ 8)

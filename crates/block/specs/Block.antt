@@ -12,6 +12,7 @@ use Rattle.laws.specs.Bytes.{bytesAt, joined}
 use Rattle.laws.specs.Repeated.{repeated}
 use Rattle.laws.specs.Format.{Bytes, Each}
 use Rattle.number.specs.Number.{largest, written, numberAt}
+use Rattle.order.specs.Order.{lastDisplay}
 use Rattle.order.specs.declared.Order.{Order}
 
 pub record Parts : Type 0 where
@@ -27,7 +28,7 @@ numberIn least most s at = then (numberAt s at) λ v. unless (within least most 
 
 abbrev pub orderAt : List ℕ → ℕ → Told (Found Order)
 orderAt s at =
-    then (numberIn 0 63 s at) λ display. then (numberAt s (display .next)) λ expected. then (numberAt s (expected .next)) λ new.
+    then (numberIn 0 lastDisplay s at) λ display. then (numberAt s (display .next)) λ expected. then (numberAt s (expected .next)) λ new.
     found (record { display = display .value; expected = expected .value; new = new .value }) (new .next)
 
 abbrev pub ordersAt : List ℕ → ℕ → Told (Found (List Order))
@@ -64,7 +65,7 @@ blockBytes p = frontBytes (p .link) (p .orders) (p .slot) (p .slotSignature) ++ 
 
 -- parts that are a block's
 abbrev pub OrderFits : Order → Type 0
-OrderFits o = (within 0 63 (o .display) ≡ true) × (o .expected ≤ largest) × (o .new ≤ largest)
+OrderFits o = (within 0 lastDisplay (o .display) ≡ true) × (o .expected ≤ largest) × (o .new ≤ largest)
 
 pub record Fits (p : Parts) : Type 0 where
   pub link-size : length (p .link) ≡ 32

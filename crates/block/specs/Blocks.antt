@@ -8,6 +8,7 @@ use lib.ListN.{length, replicate}
 use Rattle.laws.specs.Every.{both, within, every}
 use Rattle.laws.specs.Told.{Told, gives, refuses, Found}
 use Rattle.number.specs.Number.{written}
+use Rattle.order.specs.Order.{lastDisplay}
 use Rattle.order.specs.declared.Order.{Order}
 use Rattle.block.specs.Block.{Parts, ordersBytes, frontBytes}
 use Rattle.block.specs.Answers.{listed, unlisted, toldPlace}
@@ -51,7 +52,7 @@ toldBlock r = toldPlace (partsIn (r .block)) (r .place)
 
 -- what writing judges: "order count, display or slot out of its range"
 abbrev pub knownDisplay : Order → Bool
-knownDisplay o = within 0 63 (o .display)
+knownDisplay o = within 0 lastDisplay (o .display)
 
 abbrev pub inRange : Orders → ℕ → Bool
 inRange orders slot = both (leb (orders .count) 8) (both (every knownDisplay (unlisted orders)) (within 1 256 slot))

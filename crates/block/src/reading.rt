@@ -2,6 +2,7 @@
 use buffer::fits;
 use number::Reading;
 use number::within;
+use order::LAST_DISPLAY;
 use order::Order;
 use order::Slot;
 use refusal::BADLY;
@@ -61,7 +62,7 @@ pub enum OrderRead {
 fn read_order(s: &[u8], at: usize) -> OrderRead
     ensures { λ r. ⌜ toldOrder r ≡ orderAt (now (s .entry)) at ⌝ }
 {
-    match read_number_in(s, at, 0, 63) {
+    match read_number_in(s, at, 0, LAST_DISPLAY) {
         NumberRead::Refused(number) => OrderRead::Refused(number),
         NumberRead::Value(display, at) => match read_number(s, at) {
             NumberRead::Refused(number) => OrderRead::Refused(number),

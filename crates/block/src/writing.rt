@@ -8,6 +8,7 @@ use crate::reading::SIGNATURE;
 use buffer::after;
 use buffer::fits;
 use number::within;
+use order::LAST_DISPLAY;
 use order::Order;
 use order::Slot;
 use refusal::CLOCK;
@@ -104,7 +105,7 @@ fn displays_known(orders: Orders) -> bool
     let mut i = 0;
     while i < count {
         let order = list[i];
-        if 63 < order.display {
+        if LAST_DISPLAY < order.display {
             return false;
         }
         i += 1;

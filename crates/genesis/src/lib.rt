@@ -5,6 +5,8 @@ use number::within;
 use order::DISPLAYS;
 use order::Release;
 use order::Slot;
+use refusal::GENESIS;
+use refusal::TURN;
 ghost use mathlib.Core.Path.{_≡_};
 ghost use Prim.Native.Nat.{_+_, _*_};
 ghost use Rattle.laws.specs.Told.{refuses};
@@ -219,12 +221,12 @@ pub fn find_key(bytes: &[u8], controller: u32) -> KeyPlace
     let answer = read.answer;
     let table = read.table;
     match answer {
-        Answer::Refused => KeyPlace::Refused(1),
+        Answer::Refused => KeyPlace::Refused(GENESIS),
         Answer::Read => {
             if within(1, controller, table.n) {
                 KeyPlace::At(table.keys + KEY * (controller as usize - 1))
             } else {
-                KeyPlace::Refused(12)
+                KeyPlace::Refused(TURN)
             }
         }
     }

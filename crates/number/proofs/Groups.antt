@@ -8,8 +8,8 @@ use native.Mathlib.Nat.{mul-comm}
 use Rattle.laws.proofs.Cases.{lt-cases}
 use lib.Dec.{ltb, leb}
 use lib.ListN.{length, getD}
-use borrow.Author.Tests.{lt-ltb, le-ltb, le-leb}
-use Rattle.laws.specs.Told.{Told, gives, refuses, Found, found, then, unless}
+use borrow.Author.Tests.{lt-ltb, le-ltb, le-leb, ltb-true}
+use Rattle.laws.specs.Told.{Told, gives, refuses, Found, found, then}
 use Rattle.laws.proofs.Told.{gives-not-refuses, gives-same, then-gives, unless-gives}
 use Rattle.number.specs.Number.{largest, joined, capped, readGroups, numberAt}
 use Rattle.number.specs.Steps.{endedBy, finished}
@@ -75,23 +75,32 @@ module _ (s : List ℕ) (at : ℕ) where
     number-more h =
         simp (lt-ltb _ _ inside, le-ltb _ _ h) (joined-capped (getD s at 0) (readGroups 4 s (at + 1)))
 
--- a number that reads has at least one byte
-groups-move : (k : ℕ) (s : List ℕ) (at : ℕ) (r : Found ℕ) → readGroups k s at ≡ gives r → at < r .next
+-- a number that reads ends behind its place, within the bytes, and after five of them at most
+pub record Ends (s : List ℕ) (at most : ℕ) (r : Found ℕ) : Type 0 where
+  pub moves : at < r .next
+  pub inside : r .next ≤ length s
+  pub soon : r .next ≤ most
+
+groups-end : (k : ℕ) (s : List ℕ) (at : ℕ) (r : Found ℕ) → readGroups k s at ≡ gives r → Ends s at (at + k) r
 unfolding readGroups
-groups-move zero s at r e = gives-not-refuses e
-groups-move (suc k) s at r e =
+groups-end zero s at r e = gives-not-refuses e
+groups-end (suc k) s at r e =
     let (inside, rest) = unless-gives (ltb at (length s)) 3 0 _ r e in
+    let here = ltb-true at (length s) inside in
     lt-cases (getD s at 0) 128
-    (λ last. subst (λ (q : Found ℕ). at < q .next) (gives-same (simp (lt-ltb _ _ last) at rest)) (omega arith))
+    (λ last.
+    subst (Ends s at (at + suc k)) (gives-same (simp (lt-ltb _ _ last) at rest))
+    (record { moves = omega arith; inside = omega arith; soon = omega arith }))
     (λ more.
     let (q, reads, ends) = then-gives (readGroups k s (at + 1)) _ r (simp (le-ltb _ _ more) at rest) in
     let (shortest, is) = unless-gives (ltb 0 (q .value)) 4 0 _ r ends in
-    let further = groups-move k s (at + 1) q reads in
-    subst (λ (q : Found ℕ). at < q .next) (gives-same is) (omega arith))
+    let later = groups-end k s (at + 1) q reads in
+    subst (Ends s at (at + suc k)) (gives-same is)
+    (record { moves = omega (arith, later .moves); inside = later .inside; soon = omega (arith, later .soon) }))
 
-pub number-moves : (s : List ℕ) (at : ℕ) (r : Found ℕ) → numberAt s at ≡ gives r → at < r .next
+pub number-ends : (s : List ℕ) (at : ℕ) (r : Found ℕ) → numberAt s at ≡ gives r → Ends s at (at + 5) r
 unfolding numberAt
-number-moves s at r e =
+number-ends s at r e =
     let (q, reads, fits) = then-gives (readGroups 5 s at) _ r e in
     let (small, is) = unless-gives (leb (q .value) largest) 4 0 _ r fits in
-    subst (λ (q : Found ℕ). at < q .next) (gives-same is) (groups-move 5 s at q reads)
+    subst (Ends s at (at + 5)) (gives-same is) (groups-end 5 s at q reads)

@@ -1,6 +1,6 @@
 -- 01, "Orders, blocks, chains": "An order names a display (0 to 63), the release it expects there and the new release."
 -- Assumes nothing.
-use Prim.Native.Nat.{ℕ}
+use Prim.Native.Nat.{ℕ, _-_}
 use mathlib.Core.Bool.{Bool}
 use mathlib.Core.List.{List}
 use lib.Dec.{ltb, eqb}
@@ -11,6 +11,9 @@ use Rattle.order.specs.declared.Order.{Order}
 
 abbrev pub displays : ℕ
 displays = 64
+
+abbrev pub lastDisplay : ℕ
+lastDisplay = displays - 1
 
 -- "valid at a state exactly if the display's release equals the expected one and the new one is greater"
 abbrev pub valid : List ℕ → Order → Bool

@@ -14,6 +14,8 @@ pub type Release = u32;
 
 pub const DISPLAYS: usize = 64;
 
+pub const LAST_DISPLAY: u32 = 63;
+
 #[repr(C)]
 pub struct Order {
     pub display: u32,

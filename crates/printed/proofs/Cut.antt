@@ -13,13 +13,14 @@ use Rattle.laws.proofs.Told.{gives-same, then-gives, unless-gives}
 use Rattle.laws.proofs.Cases.{lt-cases}
 use Rattle.laws.specs.Bytes.{part, bytesAt}
 use Rattle.number.specs.Number.{readGroups, numberAt}
+use Rattle.number.proofs.Groups.{number-ends}
 use Rattle.genesis.specs.Genesis.{genesisOf}
 use Rattle.genesis.proofs.Faults.{no-fault}
 use Rattle.chain.specs.Chain.{longest, opened}
 use Rattle.chain.specs.declared.Opened.{Opened}
 use Rattle.chain.proofs.Calls.{held-too-long}
 use Rattle.printed.specs.Station.{genesisAt, stated, answered, textOf, stationText}
-use Rattle.printed.proofs.Inputs.{number-ends, no-genesis, no-clock, all-read}
+use Rattle.printed.proofs.Inputs.{no-genesis, no-clock, all-read}
 
 -- a part of the first k bytes is a part of all of them
 part-front : (s : List ℕ) (k at size : ℕ) → at + size ≤ k → part (take k s) at size ≡ part s at size
@@ -38,7 +39,7 @@ genesis-ends s g e =
     let (table, reads″, is) = then-gives (genesisOf (bytes .value)) _ g rest″ in
     let (room, is′) = unless-gives (leb (size .next + size .value) (length s)) 3 0 (found (part s (size .next) (size .value)) (size .next + size .value)) bytes reads′ in
     subst (λ (q : Found (List ℕ)). q .next ≤ 1320) (gives-same is′ ∙ gives-same is)
-    (omega (arith, leb-true (size .value) 1315 few, number-ends s 0 size reads .1))
+    (omega (arith, leb-true (size .value) 1315 few, number-ends s 0 size reads .soon))
 
 -- two chains that are too long are refused alike
 too-long : (genesis : List ℕ) (clock : ℕ) (held held′ : List ℕ) → longest < length held → longest < length held′
@@ -76,7 +77,7 @@ module _ (s : List ℕ) (k : ℕ) (long : k ≤ length s) (room : 65582 ≤ k) w
       by-number (gives r) e =
           lt-cases 1315 (r .value) (λ over. rw (number-front 0 (omega arith), e, lt-leb (r .value) 1315 over))
           (λ few.
-          let inside : r .next + r .value ≤ k = omega (arith, number-ends s 0 r e .1) in
+          let inside : r .next + r .value ≤ k = omega (arith, number-ends s 0 r e .soon) in
           rw (number-front 0 (omega arith), e, le-leb (r .value) 1315 few, bytes-front (r .value) (r .next) inside))
 
   answered-front : answered (take k s) ≡ answered s
@@ -89,7 +90,7 @@ module _ (s : List ℕ) (k : ℕ) (long : k ≤ length s) (room : 65582 ≤ k) w
           ∙ sym (no-clock s (g .value) (g .next) begins number place e)
       by-clock g begins (gives c) e =
           let early = genesis-ends s g begins in
-          let soon = number-ends s (g .next) c e .1 in
+          let soon = number-ends s (g .next) c e .soon in
           let more : longest < length (drop (c .next) s) = rw length-drop (omega arith) in
           let cut : longest < length (drop (c .next) (take k s)) = rw (length-drop, length-take-le k s long) (omega arith) in
           all-read (take k s) (g .value) (g .next) (genesis-front ∙ begins) (c .value) (c .next) (number-front (g .next) (omega arith) ∙ e)

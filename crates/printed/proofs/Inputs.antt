@@ -1,46 +1,17 @@
 -- The input, taken apart piece by piece.
 -- Assumes nothing.
-use Prim.Native.Nat.{ℕ, zero, suc, _+_, _-_, _<_, _≤_}
-use mathlib.Core.Path.{_≡_, sym, ap, _∙_, subst}
+use Prim.Native.Nat.{ℕ, _+_, _-_, _<_, _≤_}
+use mathlib.Core.Path.{_≡_, sym, ap, _∙_}
 use mathlib.Core.List.{List}
-use native.Mathlib.Omega.{arith}
 use native.Mathlib.Nat.{add-sub-cancel-left}
-use lib.Dec.{ltb, leb}
-use lib.ListN.{length, drop, getD}
-use borrow.Author.Tests.{lt-ltb, le-ltb, lt-leb, le-leb, ltb-true}
-use Rattle.laws.proofs.Cases.{lt-cases}
-use Rattle.laws.specs.Told.{gives, refuses, Found, found}
-use Rattle.laws.proofs.Told.{gives-not-refuses, gives-same, then-gives, unless-gives}
+use lib.ListN.{length, drop}
+use borrow.Author.Tests.{lt-leb, le-leb}
+use Rattle.laws.specs.Told.{gives, refuses, found}
 use Rattle.laws.specs.Bytes.{part}
-use Rattle.number.specs.Number.{largest, readGroups, numberAt}
+use Rattle.number.specs.Number.{numberAt}
 use Rattle.genesis.specs.Genesis.{genesisOf}
 use Rattle.genesis.specs.declared.Genesis.{Genesis}
 use Rattle.printed.specs.Station.{genesisAt, stated, answered}
-
--- a number that reads ends within the bytes, and after five of them at most
-abbrev Ends : List ℕ → ℕ → Found ℕ → Type 0
-Ends s most r = (r .next ≤ length s) × (r .next ≤ most)
-
-groups-end : (k : ℕ) (s : List ℕ) (at : ℕ) (r : Found ℕ) → readGroups k s at ≡ gives r → Ends s (at + k) r
-unfolding readGroups
-groups-end zero s at r e = gives-not-refuses e
-groups-end (suc k) s at r e =
-    let (inside, rest) = unless-gives (ltb at (length s)) 3 0 _ r e in
-    let here = ltb-true at (length s) inside in
-    lt-cases (getD s at 0) 128
-    (λ last. subst (Ends s (at + suc k)) (gives-same (simp (lt-ltb _ _ last) at rest)) (omega arith, omega arith))
-    (λ more.
-    let (q, reads, ends) = then-gives (readGroups k s (at + 1)) _ r (simp (le-ltb _ _ more) at rest) in
-    let (shortest, is) = unless-gives (ltb 0 (q .value)) 4 0 _ r ends in
-    let (within, few) = groups-end k s (at + 1) q reads in
-    subst (Ends s (at + suc k)) (gives-same is) (within, omega arith))
-
-pub number-ends : (s : List ℕ) (at : ℕ) (r : Found ℕ) → numberAt s at ≡ gives r → (r .next ≤ length s) × (r .next ≤ at + 5)
-unfolding numberAt
-number-ends s at r e =
-    let (q, reads, fits) = then-gives (readGroups 5 s at) _ r e in
-    let (small, is) = unless-gives (leb (q .value) largest) 4 0 _ r fits in
-    subst (Ends s (at + 5)) (gives-same is) (groups-end 5 s at q reads)
 
 -- a genesis length that reads: too large, more than there is, or the length of bytes that are a genesis or none
 module _ (input : List ℕ) (size from : ℕ) (reads : numberAt input 0 ≡ found size from) where

@@ -10,8 +10,9 @@ use borrow.Author.Needs.{needs}
 use Rattle.laws.specs.Bytes.{part}
 use Rattle.laws.specs.Told.{found}
 use Rattle.number.specs.Number.{numberAt}
+use Rattle.number.proofs.Groups.{number-ends}
 use Rattle.printed.specs.Station.{genesisAt, stated}
-use Rattle.printed.proofs.Inputs.{number-ends, no-genesis, no-clock, all-read}
+use Rattle.printed.proofs.Inputs.{no-genesis, no-clock, all-read}
 use Rattle.printed.proofs.answered.Statement.{statement}
 use Rattle.printed.proofs.answered.Tie as tie
 
@@ -51,7 +52,7 @@ clock-is c = sym (rw (c .clock .given .1) at (c .before .before .read .ensures))
 behind : (c : tie.After-clock) → c .clock .given .0 .1 .0 ≤ length (now (c .before .before .before .before .before .before .before .before .args .input))
 behind c =
     let from = c .before .before .before .before in
-    number-ends (now (from .before .before .before .before .args .input)) (from .from .given .0 .1 .0) _ (clock-is c) .0
+    number-ends (now (from .before .before .before .before .args .input)) (from .from .given .0 .1 .0) _ (clock-is c) .inside
 
 sub-stated : tie.Need-sub-stated
 sub-stated c = inside (c .before .before .before .before .before) .0
