@@ -1,14 +1,14 @@
 -- Accepted chains: what they are made of, how they grow, and how long they get.
 -- Assumes nothing.
-use Prim.Native.Nat.{ℕ, _+_, _*_, _≤_}
+use Prim.Native.Nat.{ℕ, _+_, _*_, _<_, _≤_}
 use mathlib.Core.Path.{_≡_, refl, sym, ap, ap₂, _∙_, subst}
-use mathlib.Core.List.{List, [], _∷_, _++_}
+use mathlib.Core.List.{List, [], _∷_, _++_, append-nil}
 use native.Mathlib.Omega.{arith}
 use native.Mathlib.Nat.{add-zero}
 use lib.ListN.{length, take, length-append}
 use lib.Seq.{take-at}
 use Rattle.laws.specs.Pick.{pick}
-use Rattle.laws.specs.Told.{Told, gives, then}
+use Rattle.laws.specs.Told.{Told, gives, refuses, then}
 use Rattle.laws.specs.Format.{Bytes, Each}
 use Rattle.laws.proofs.Told.{gives-same, then-gives}
 use Rattle.laws.proofs.Each.{each-append, each-parts}
@@ -17,14 +17,15 @@ use Rattle.laws.proofs.Formats.{several}
 use Rattle.block.specs.Block.{Parts, blockBytes, Fits}
 use Rattle.block.proofs.RoundTrip.{block-inverse}
 use Rattle.block.proofs.Theorems.{a-block-has-162-to-251-bytes}
-use Rattle.chain.specs.Chain.{Way, longest, admitted, settles, none, passed, begun}
+use Rattle.chain.specs.Chain.{Way, longest, admitted, judged, settles, none, passed, begun}
 use Rattle.chain.specs.declared.Opened.{Opened}
 use Rattle.chain.specs.declared.Standing.{Standing}
 use Rattle.chain.specs.declared.Summary.{Summary}
 use Rattle.chain.specs.Blocks.{chainBytes, followed, Admits, settledOf, Accepted, Behind, Rising, lastStamp}
 use Rattle.chain.proofs.Following.{added, front-follows, Adds, adds, rising-few}
 use Rattle.chain.proofs.Settling.{onward, summed, first-summed, summed-append, summed-follows, follows-summed, settled-follows, settled-exactly}
-use Rattle.chain.proofs.Accepting.{pass-blocks, blocks-of}
+use Rattle.chain.proofs.Accepting.{pass-through, blocks-of}
+use Rattle.chain.proofs.Passing.{pass-over, pass-refused}
 
 -- ---- the parts of a chain
 module _ (way : Way) (clock : ℕ) where
@@ -65,9 +66,6 @@ module _ (o : Opened) (way : Way) where
       let b = blocks-of o way chain bytes (length chain) (begun o) s (omega arith) is in
       (b .blocks, b .are, sums-accepted (b .blocks) s (b .fit) (b .admits) (b .sums))
 
-  pub accepted-passes : (blocks : List Parts) (s : Summary) → Accepted o way blocks s → passed o way (chainBytes blocks) (begun o) ≡ gives s
-  accepted-passes blocks s a = pass-blocks o way blocks [] (begun o) s refl (a .fits) (a .admits) (accepted-sums blocks s a)
-
   pub followed-accepted : (blocks : List Parts) (whole : Standing) → Each Fits blocks → followed (none o) blocks ≡ gives whole
       → Admits way (o .clock .0) 0 blocks → (s : Summary) × (s .whole ≡ whole) × Accepted o way blocks s
   followed-accepted blocks whole fits follow admits =
@@ -83,6 +81,26 @@ module _ (o : Opened) (way : Way) where
 
   accepted-adds : (blocks : List Parts) (s : Summary) → Accepted o way blocks s → Adds (none o) blocks (s .whole)
   accepted-adds blocks s a = adds (none o) blocks (s .whole) (a .whole)
+
+  -- a pass goes through accepted blocks, and ends there or goes on with what is behind them
+  through : (blocks : List Parts) (s : Summary) (chain rest : List ℕ) → Accepted o way blocks s → chain ≡ chainBytes blocks ++ rest
+      → passed o way chain (begun o) ≡ passed o way chain s
+  through blocks s chain rest a is = pass-through o way blocks chain [] rest (begun o) s is refl (a .fits) (a .admits) (accepted-sums blocks s a)
+
+  pub accepted-passes : (blocks : List Parts) (s : Summary) → Accepted o way blocks s → passed o way (chainBytes blocks) (begun o) ≡ gives s
+  accepted-passes blocks s a =
+      through blocks s (chainBytes blocks) [] a (sym (append-nil (chainBytes blocks)))
+      ∙ pass-over o way (chainBytes blocks) s (omega (arith, accepted-adds blocks s a .size))
+
+  pub refused-behind : (blocks : List Parts) (s : Summary) (rest : List ℕ) (number place : ℕ) → Accepted o way blocks s → 0 < length rest
+      → judged way (o .clock .0) (chainBytes blocks ++ rest) (s .whole) ≡ refuses number place
+      → passed o way (chainBytes blocks ++ rest) (begun o) ≡ refuses number (length blocks + 1)
+  refused-behind blocks s rest number place a some bad =
+      let n = accepted-adds blocks s a in
+      let counts : s .whole .count .0 ≡ length blocks = omega (arith, n .count) in
+      through blocks s (chainBytes blocks ++ rest) rest a refl
+      ∙ pass-refused o way (chainBytes blocks ++ rest) s (omega (arith, length-append (chainBytes blocks) rest, n .size)) number place bad
+      ∙ ap (λ (count : ℕ). refuses number (count + 1)) counts
 
   one-summed : (s : Summary) (p : Parts) (e : Summary) → Behind o way s p e → summed o s (p ∷ []) ≡ gives e
   one-summed s p e b =

@@ -2,7 +2,7 @@
 -- Assumes nothing.
 use Prim.Native.Nat.{ℕ, zero, suc, _+_, _-_, _<_, _≤_}
 use mathlib.Core.Path.{_≡_, refl, sym, ap, _∙_, subst}
-use mathlib.Core.List.{List, [], _∷_, _++_, append-assoc, append-nil, append-cancel-left}
+use mathlib.Core.List.{List, [], _∷_, _++_, append-assoc, append-cancel-left}
 use native.Mathlib.Omega.{arith}
 use lib.Dec.{ltb}
 use lib.ListN.{length, take, drop, length-append, drop-of-length-le}
@@ -10,7 +10,7 @@ use lib.Seq.{take-at, drop-at}
 use Rattle.laws.specs.Told.{Told, gives, refuses, Found, found}
 use Rattle.laws.specs.Format.{Bytes, Each}
 use Rattle.laws.proofs.Cases.{lt-cases}
-use Rattle.laws.proofs.Told.{gives-not-refuses, then-gives, unless-gives}
+use Rattle.laws.proofs.Told.{gives-same, gives-not-refuses, then-gives, unless-gives}
 use Rattle.laws.proofs.Format.{same-front}
 use Rattle.block.specs.Block.{Parts, blockAt, blockBytes, Fits}
 use Rattle.block.proofs.RoundTrip.{block-inverse}
@@ -71,24 +71,23 @@ lies-written front rest at p long fits =
     }
 
 module _ (o : Opened) (way : Way) where
-  -- ---- blocks that are a good chain pass
-  pub pass-blocks : (blocks : List Parts) (front : List ℕ) (s e : Summary) → length front ≡ s .whole .length → Each Fits blocks
-      → Admits way (o .clock .0) (s .whole .count .0) blocks → summed o s blocks ≡ gives e → passed o way (front ++ chainBytes blocks) s ≡ gives e
-  pass-blocks [] front s e long fits admits sums =
-      pass-over o way (front ++ []) s (rw append-nil (omega arith)) ∙ sums
-  pass-blocks (p ∷ rest) front s e long (fit, fits) (admit, admits) sums =
-      let (after, one, others) = first-summed o s p rest e sums in
+  -- ---- blocks that are a good chain pass, whatever comes behind them
+  pub pass-through : (blocks : List Parts) (chain front rest : List ℕ) (s e : Summary) → chain ≡ front ++ (chainBytes blocks ++ rest)
+      → length front ≡ s .whole .length → Each Fits blocks → Admits way (o .clock .0) (s .whole .count .0) blocks → summed o s blocks ≡ gives e
+      → passed o way chain s ≡ passed o way chain e
+  pass-through [] chain front rest s e is long fits admits sums = ap (passed o way chain) (gives-same sums)
+  pass-through (p ∷ others) chain front rest s e is long (fit, fits) (admit, admits) sums =
+      let (after, one, more) = first-summed o s p others e sums in
       let a = added (s .whole) p after one in
-      let chain = front ++ (blockBytes p ++ chainBytes rest) in
-      let at = lies-written front (chainBytes rest) (s .whole .length) p long fit in
+      let behind = chainBytes others ++ rest in
+      let here : chain ≡ front ++ (blockBytes p ++ behind) = is ∙ ap (λ (l : List ℕ). front ++ l) (append-assoc (blockBytes p) (chainBytes others) rest) in
+      let at = subst (λ (l : List ℕ). Lies l (s .whole .length) p) (sym here) (lies-written front behind (s .whole .length) p long fit) in
       let some : s .whole .length < length chain =
-      omega (arith, length-append front (blockBytes p ++ chainBytes rest), length-append (blockBytes p) (chainBytes rest), a-block-has-162-to-251-bytes p fit) in
+      omega (arith, ap length here, length-append front (blockBytes p ++ behind), length-append (blockBytes p) behind, a-block-has-162-to-251-bytes p fit) in
       let long′ : length (front ++ blockBytes p) ≡ after .length = omega (arith, length-append front (blockBytes p)) in
-      let again = pass-blocks rest (front ++ blockBytes p) (onward o s after) e long′ fits
-      (subst (λ (n : ℕ). Admits way (o .clock .0) n rest) (sym (a .count)) admits) others in
       pass-next o way chain s some after (judged-follows way (o .clock .0) chain (s .whole) p at admit ∙ one)
-      ∙ ap (λ (l : List ℕ). passed o way l (onward o s after)) (sym (append-assoc front (blockBytes p) (chainBytes rest)))
-      ∙ again
+      ∙ pass-through others chain (front ++ blockBytes p) rest (onward o s after) e (here ∙ sym (append-assoc front (blockBytes p) behind)) long′ fits
+      (subst (λ (n : ℕ). Admits way (o .clock .0) n others) (sym (a .count)) admits) more
 
   -- ---- a chain that passes is blocks
   -- from a place in the middle of it

@@ -1,8 +1,8 @@
 -- Delivered chains and held ones are accepted blocks.
 -- Assumes nothing.
-use Prim.Native.Nat.{ℕ, _≤_}
+use Prim.Native.Nat.{ℕ, _+_, _<_, _≤_}
 use mathlib.Core.Path.{_≡_, sym, ap, ap₂, _∙_}
-use mathlib.Core.List.{List}
+use mathlib.Core.List.{List, _++_}
 use native.Mathlib.Omega.{arith}
 use lib.Dec.{leb}
 use lib.ListN.{length, take}
@@ -15,12 +15,12 @@ use Rattle.laws.proofs.Told.{gives-same, gives-not-refuses, then-gives, unless-
 use Rattle.laws.proofs.Every.{both-true}
 use Rattle.laws.proofs.Bytes.{bytes-take}
 use Rattle.block.specs.Block.{Parts}
-use Rattle.chain.specs.Chain.{longest, delivered, held, passed, begun, deliveredChain, bad, heldChain, opened, checked}
+use Rattle.chain.specs.Chain.{longest, delivered, held, judged, passed, begun, deliveredChain, bad, heldChain, opened, checked}
 use Rattle.chain.specs.declared.Opened.{Opened}
 use Rattle.chain.specs.declared.Summary.{Summary}
 use Rattle.chain.proofs.Calls.{delivered-passed, held-passed}
 use Rattle.chain.specs.Blocks.{chainBytes, Accepted, Checks}
-use Rattle.chain.proofs.Accepted.{passed-accepted, accepted-passes, counts-all, few-bytes}
+use Rattle.chain.proofs.Accepted.{passed-accepted, accepted-passes, refused-behind, counts-all, few-bytes}
 
 module _ (o : Opened) (s : Summary) where
   pub delivered-is : (chain verdicts : List ℕ) → Bytes chain → deliveredChain o chain verdicts ≡ gives s
@@ -79,3 +79,12 @@ module _ (genesis : List ℕ) (clock : ℕ) (chain verdicts : List ℕ) (count :
       ap (λ (l : List ℕ). deliveredChain (c .o) l verdicts) (c .are) ∙ is-delivered (c .o) (c .s) verdicts (c .blocks) (c .accepted) in
       rw (c .opens, good)
       (ap₂ (λ (n : ℕ) (r : List ℕ). gives (n, r)) (counts-all (c .o) (delivered verdicts) (c .blocks) (c .s) (c .accepted) ∙ sym (c .counts)) (sym (c .leaves)))
+
+pub refused-at : (genesis : List ℕ) (clock : ℕ) (verdicts : List ℕ) (o : Opened) (blocks : List Parts) (s : Summary) (rest : List ℕ) (number place : ℕ)
+    → opened genesis clock ≡ gives o → Accepted o (delivered verdicts) blocks s → 0 < length rest → length (chainBytes blocks ++ rest) ≤ longest
+    → judged (delivered verdicts) (o .clock .0) (chainBytes blocks ++ rest) (s .whole) ≡ refuses number place
+    → checked genesis clock (chainBytes blocks ++ rest) verdicts ≡ refuses number (length blocks + 1)
+refused-at genesis clock verdicts o blocks s rest number place opens a some short bad =
+    let refused : deliveredChain o (chainBytes blocks ++ rest) verdicts ≡ refuses number (length blocks + 1) =
+    delivered-passed o (chainBytes blocks ++ rest) verdicts short ∙ refused-behind o (delivered verdicts) blocks s rest number place a some bad in
+    rw (opens, refused)

@@ -6,11 +6,11 @@ use mathlib.Core.Path.{_≡_, sym, _∙_}
 use mathlib.Core.Bool.{true, false}
 use mathlib.Core.List.{List, [], _∷_, _++_}
 use lib.ListN.{length, take}
-use Rattle.laws.specs.Told.{gives, then}
+use Rattle.laws.specs.Told.{gives, refuses, then}
 use Rattle.laws.specs.Format.{Bytes, Each}
 use Rattle.laws.proofs.Told.{gives-same}
 use Rattle.block.specs.Block.{Parts, blockBytes, Fits}
-use Rattle.chain.specs.Chain.{longest, linkOf, Way, delivered, held, settles, none, passed, begun, deliveredChain, heldChain, opened, checked}
+use Rattle.chain.specs.Chain.{longest, linkOf, Way, delivered, held, judged, settles, none, passed, begun, deliveredChain, heldChain, opened, checked}
 use Rattle.chain.specs.declared.Opened.{Opened}
 use Rattle.chain.specs.declared.Standing.{Standing}
 use Rattle.chain.specs.declared.Summary.{Summary}
@@ -84,6 +84,19 @@ module _ (genesis : List ℕ) (clock : ℕ) (chain verdicts : List ℕ) (count :
 
   pub accepted-blocks-check : Checks genesis clock chain verdicts count releases → checked genesis clock chain verdicts ≡ gives (count, releases)
   accepted-blocks-check = chains.is-checked genesis clock chain verdicts count releases
+
+-- the first bad block decides, however many good ones are before it: `judged` is what a block meets behind them, `s`
+module _ (blocks : List Parts) (s : Summary) (rest : List ℕ) (number place : ℕ) where
+  pub the-first-bad-block-is-refused : (o : Opened) (way : Way) → Accepted o way blocks s → 0 < length rest
+      → judged way (o .clock .0) (chainBytes blocks ++ rest) (s .whole) ≡ refuses number place
+      → passed o way (chainBytes blocks ++ rest) (begun o) ≡ refuses number (length blocks + 1)
+  the-first-bad-block-is-refused o way = accepted.refused-behind o way blocks s rest number place
+
+  pub a-check-refuses-at-the-first-bad-block : (genesis : List ℕ) (clock : ℕ) (verdicts : List ℕ) (o : Opened) → opened genesis clock ≡ gives o
+      → Accepted o (delivered verdicts) blocks s → 0 < length rest → length (chainBytes blocks ++ rest) ≤ longest
+      → judged (delivered verdicts) (o .clock .0) (chainBytes blocks ++ rest) (s .whole) ≡ refuses number place
+      → checked genesis clock (chainBytes blocks ++ rest) verdicts ≡ refuses number (length blocks + 1)
+  a-check-refuses-at-the-first-bad-block genesis clock verdicts o = chains.refused-at genesis clock verdicts o blocks s rest number place
 
 -- ---- part by part
 pub blocks-follow-part-by-part : (s : Standing) (xs ys : List Parts) → followed s (xs ++ ys) ≡ then (followed s xs) (λ after. followed after ys)
