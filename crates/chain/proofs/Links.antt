@@ -1,12 +1,12 @@
 -- Links are digests: nothing that is linked is too long for one.
 -- Assumes nothing.
-use mathlib.Core.Path.{_≡_, refl, _∙_, subst}
+use mathlib.Core.Path.{_≡_, subst}
 use mathlib.Core.List.{List}
 use Prim.Native.Nat.{ℕ, _≤_}
 use native.Mathlib.Omega.{arith}
 use lib.ListN.{length}
 use borrow.Author.Tests.{le-leb}
-use Rattle.laws.specs.Told.{gives, then, unless}
+use Rattle.laws.specs.Told.{gives}
 use Rattle.laws.specs.Format.{Bytes}
 use Rattle.laws.proofs.Told.{gives-same, then-gives, unless-gives}
 use Rattle.sha256.specs.Sha256.{longest, sha256}

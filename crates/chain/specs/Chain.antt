@@ -14,7 +14,6 @@ use Rattle.sha256.specs.Answer.{bytesOf}
 use Rattle.order.specs.Order.{valid, applied}
 use Rattle.order.specs.declared.Order.{Order}
 use Rattle.genesis.specs.Genesis.{genesisOf, clockFits, depth}
-use Rattle.genesis.specs.declared.Genesis.{Genesis}
 use Rattle.block.specs.Block.{Parts, blockAt}
 use Rattle.chain.specs.declared.Opened.{Opened}
 use Rattle.chain.specs.declared.Standing.{Standing}

@@ -1,13 +1,13 @@
 -- What a reader may take of a table's bytes: 01's "so t is at most 6" and "At most 1,315 bytes".
 -- Assumes nothing.
-use mathlib.Core.Path.{_≡_, sym, ap, subst}
+use mathlib.Core.Path.{_≡_, ap, subst}
 use mathlib.Core.List.{List}
 use Prim.Native.Nat.{ℕ, zero, suc, _+_, _*_, _<_, _≤_}
 use native.Mathlib.Omega.{arith}
 use lib.ListN.{length}
 use lib.Dec.{leb}
 use borrow.Author.Tests.{leb-true, eqb-true}
-use Rattle.laws.specs.Told.{Told, gives, Found, then}
+use Rattle.laws.specs.Told.{gives, Found}
 use Rattle.laws.specs.Every.{both, within}
 use Rattle.laws.specs.Repeated.{repeated}
 use Rattle.laws.specs.Format.{Bytes}
@@ -19,7 +19,7 @@ use Rattle.number.proofs.RoundTrip.{number-inverse}
 use Rattle.genesis.specs.Genesis.{headAt, rules, ended, genesisOf}
 use Rattle.genesis.specs.declared.Genesis.{Genesis}
 use Rattle.genesis.proofs.Faults.{no-fault}
-use Rattle.genesis.proofs.Sound.{Sound, sound}
+use Rattle.genesis.proofs.Sound.{sound}
 
 pub at-most-six-are-faulty : (s : List ℕ) (g : Genesis) → genesisOf s ≡ gives g → g .t ≤ 6
 at-most-six-are-faulty s g e = let fine = sound s g e in omega (arith, fine .faults, fine .few)

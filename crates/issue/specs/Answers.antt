@@ -1,10 +1,7 @@
 -- What the answers of this crate tell.
 -- Assumes nothing.
 use Prim.Native.Nat.{ℕ}
-use lib.ListN.{replicate}
-use mathlib.Core.List.{[]}
 use Rattle.laws.specs.Told.{Told, gives, refuses}
-use Rattle.block.specs.Answers.{listed}
 use Rattle.block.specs.declared.Front.{Front}
 use Rattle.chain.specs.Answers.{toldAnswer}
 use Rattle.issue.specs.declared.Fronted.{Fronted}

@@ -9,7 +9,6 @@ use Rattle.laws.specs.Every.{both, within}
 use Rattle.laws.specs.Placed.{placed, placing}
 use Rattle.order.specs.declared.Order.{Order}
 use Rattle.genesis.specs.Genesis.{turn}
-use Rattle.block.specs.Block.{frontBytes}
 use Rattle.block.specs.Answers.{listed}
 use Rattle.block.specs.Blocks.{frontOf}
 use Rattle.block.specs.declared.Front.{Front}

@@ -1,20 +1,19 @@
 -- What is taken of orders: no more than asked for, only known displays, and each valid where it stands.
 -- Assumes nothing.
-use mathlib.Core.Path.{_≡_, refl, ap, _∙_, subst}
+use mathlib.Core.Path.{_≡_, refl, _∙_}
 use mathlib.Core.Bool.{Bool, true, false}
 use mathlib.Core.List.{List, [], _∷_, _++_}
-use Prim.Native.Nat.{ℕ, _<_, _≤_, zero-le}
+use Prim.Native.Nat.{ℕ, _≤_, zero-le}
 use native.Mathlib.Omega.{arith}
 use lib.Dec.{ltb}
 use lib.ListN.{length, length-append}
 use borrow.Author.Tests.{ltb-true}
 use Rattle.laws.specs.Pick.{pick}
-use Rattle.laws.specs.Told.{Told, gives, refuses, then, unless}
+use Rattle.laws.specs.Told.{gives, then, unless}
 use Rattle.laws.specs.Every.{both, every}
 use Rattle.laws.specs.Fold.{folded}
 use Rattle.laws.proofs.Every.{both-true}
-use Rattle.laws.proofs.Told.{then-gives}
-use Rattle.order.specs.Order.{displays, valid, applied}
+use Rattle.order.specs.Order.{valid, applied}
 use Rattle.order.specs.declared.Order.{Order}
 use Rattle.chain.specs.Chain.{obeyed}
 use Rattle.pool.specs.Pool.{Taking, takeOne, taking}

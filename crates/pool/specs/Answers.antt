@@ -1,8 +1,6 @@
 -- What the answers of this crate tell.
 -- Assumes nothing.
-use Prim.Native.Nat.{ℕ}
-use mathlib.Core.List.{List}
-use lib.ListN.{length, take}
+use lib.ListN.{length}
 use Rattle.laws.specs.Told.{Told, gives, refuses}
 use Rattle.laws.specs.Tabulate.{tailed}
 use Rattle.chain.specs.Answers.{toldAnswer}
