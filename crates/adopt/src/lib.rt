@@ -34,8 +34,10 @@ pub fn judge(
     delivered: &[u8],
     verdicts: &[u8],
 ) -> Judged
-    ensures answer { λ r. ⌜ toldJudged r ≡ spec.accepted (now (genesis .entry)) (clock .0) (now (held .entry)) length (now (delivered .entry)) (now (verdicts .entry)) ⌝ }
-    ensures count { λ r. ⌜ r .count .0 ≡ countOr (spec.accepted (now (genesis .entry)) (clock .0) (now (held .entry)) length (now (delivered .entry)) (now (verdicts .entry))) ⌝ }
+    ensures answer { λ r. ⌜ toldJudged r ≡
+        spec.accepted (now (genesis .entry)) (clock .0) (now (held .entry)) length (now (delivered .entry)) (now (verdicts .entry)) ⌝ }
+    ensures count { λ r. ⌜ r .count .0 ≡ countOr
+        (spec.accepted (now (genesis .entry)) (clock .0) (now (held .entry)) length (now (delivered .entry)) (now (verdicts .entry))) ⌝ }
 {
     let holding = chain::hold(genesis, clock, held, length);
     let answer = holding.answer;
@@ -89,9 +91,13 @@ pub fn choose<'a>(
     number: &mut u32,
     place: &mut u32,
 ) -> &'a [u8]
-    ensures slice { λ r. ⌜ r ≡ spec.chosen (spec.choice (now (genesis .entry)) (clock .0) (now (held .entry)) (now (delivered .entry)) (now (verdicts .entry))) (held .entry) (delivered .entry) ⌝ }
-    ensures number { λ _. ⌜ now (number .exit) ≡ numberOf (spec.choice (now (genesis .entry)) (clock .0) (now (held .entry)) (now (delivered .entry)) (now (verdicts .entry))) ⌝ }
-    ensures place { λ _. ⌜ now (place .exit) ≡ placeOf (spec.choice (now (genesis .entry)) (clock .0) (now (held .entry)) (now (delivered .entry)) (now (verdicts .entry))) ⌝ }
+    ensures slice { λ r. ⌜ r ≡ spec.chosen
+        (spec.choice (now (genesis .entry)) (clock .0) (now (held .entry)) (now (delivered .entry)) (now (verdicts .entry)))
+        (held .entry) (delivered .entry) ⌝ }
+    ensures number { λ _. ⌜ now (number .exit) ≡ numberOf
+        (spec.choice (now (genesis .entry)) (clock .0) (now (held .entry)) (now (delivered .entry)) (now (verdicts .entry))) ⌝ }
+    ensures place { λ _. ⌜ now (place .exit) ≡ placeOf
+        (spec.choice (now (genesis .entry)) (clock .0) (now (held .entry)) (now (delivered .entry)) (now (verdicts .entry))) ⌝ }
 {
     let answer = judge(genesis, clock, held, held.len(), delivered, verdicts).answer;
     match answer {
@@ -117,9 +123,15 @@ pub fn adopt(
     delivered: &[u8],
     verdicts: &[u8],
 ) -> Adopted
-    ensures answer { λ r. ⌜ toldAdopted r ≡ spec.adopted (spec.accepted (now (genesis .entry)) (clock .0) (now (held .entry)) length (now (delivered .entry)) (now (verdicts .entry))) (now (held .entry)) (now (delivered .entry)) ⌝ }
-    ensures values { λ r. ⌜ sizeAndCount r ≡ sizeAndCountOr (spec.adopted (spec.accepted (now (genesis .entry)) (clock .0) (now (held .entry)) length (now (delivered .entry)) (now (verdicts .entry))) (now (held .entry)) (now (delivered .entry))) ⌝ }
-    ensures held { λ _. ⌜ now (held .exit) ≡ spec.adopting (spec.accepted (now (genesis .entry)) (clock .0) (now (held .entry)) length (now (delivered .entry)) (now (verdicts .entry))) (now (held .entry)) (now (delivered .entry)) ⌝ }
+    ensures answer { λ r. ⌜ toldAdopted r ≡ spec.adopted
+        (spec.accepted (now (genesis .entry)) (clock .0) (now (held .entry)) length (now (delivered .entry)) (now (verdicts .entry)))
+        (now (held .entry)) (now (delivered .entry)) ⌝ }
+    ensures values { λ r. ⌜ sizeAndCount r ≡ sizeAndCountOr (spec.adopted
+        (spec.accepted (now (genesis .entry)) (clock .0) (now (held .entry)) length (now (delivered .entry)) (now (verdicts .entry)))
+        (now (held .entry)) (now (delivered .entry))) ⌝ }
+    ensures held { λ _. ⌜ now (held .exit) ≡ spec.adopting
+        (spec.accepted (now (genesis .entry)) (clock .0) (now (held .entry)) length (now (delivered .entry)) (now (verdicts .entry)))
+        (now (held .entry)) (now (delivered .entry)) ⌝ }
 {
     let judged = judge(genesis, clock, &*held, length, delivered, verdicts);
     let answer = judged.answer;

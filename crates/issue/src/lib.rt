@@ -3,23 +3,19 @@ use block::Block;
 use block::Front;
 use block::Orders;
 use block::Place;
-use buffer::Writing;
 use chain::Answer;
 use chain::Opened;
 use chain::Summary;
-use genesis::Genesis;
 use number::within;
 use order::BlockCount;
 use order::Order;
 use order::Slot;
 use pool::Pool;
 use refusal::POOL;
-use refusal::SHORT;
 use refusal::STAMP;
 use refusal::TURN;
 ghost use mathlib.Core.Path.{_≡_};
 ghost use mathlib.Core.Bool.{true};
-ghost use Prim.Native.Nat.{_≤_};
 ghost use lib.ListN.{take};
 ghost use Rattle.laws.specs.Told.{refuses};
 ghost use Rattle.laws.specs.Placed.{placed, placing};
@@ -167,9 +163,13 @@ pub fn draft(
     signature: [u8; 64],
     out: &mut [u8],
 ) -> Issued
-    ensures answer { λ r. ⌜ toldIssued r ≡ spec.writing spec.draftBytes (spec.front (now (genesis .entry)) (clock .0) (now (held .entry)) length pool controller signature) (now (out .entry)) 0 ⌝ }
+    ensures answer { λ r. ⌜ toldIssued r ≡ spec.writing spec.draftBytes
+        (spec.front (now (genesis .entry)) (clock .0) (now (held .entry)) length pool controller signature)
+        (now (out .entry)) 0 ⌝ }
     ensures length { λ r. ⌜ r .length ≡ lengthOr (toldIssued r) ⌝ }
-    ensures out { λ _. ⌜ now (out .exit) ≡ spec.written spec.draftBytes (spec.front (now (genesis .entry)) (clock .0) (now (held .entry)) length pool controller signature) (now (out .entry)) 0 ⌝ }
+    ensures out { λ _. ⌜ now (out .exit) ≡ spec.written spec.draftBytes
+        (spec.front (now (genesis .entry)) (clock .0) (now (held .entry)) length pool controller signature)
+        (now (out .entry)) 0 ⌝ }
 {
     let fronted = front(genesis, clock, held, length, pool, controller, signature);
     let answer = fronted.answer;
@@ -191,9 +191,13 @@ pub fn append(
     signature: [u8; 64],
     seal: [u8; 64],
 ) -> Issued
-    ensures answer { λ r. ⌜ toldIssued r ≡ spec.writing (spec.appendBytes seal) (spec.front (now (genesis .entry)) (clock .0) (now (held .entry)) length pool controller signature) (now (held .entry)) length ⌝ }
+    ensures answer { λ r. ⌜ toldIssued r ≡ spec.writing (spec.appendBytes seal)
+        (spec.front (now (genesis .entry)) (clock .0) (now (held .entry)) length pool controller signature)
+        (now (held .entry)) length ⌝ }
     ensures length { λ r. ⌜ r .length ≡ lengthOr (toldIssued r) ⌝ }
-    ensures held { λ _. ⌜ now (held .exit) ≡ spec.written (spec.appendBytes seal) (spec.front (now (genesis .entry)) (clock .0) (now (held .entry)) length pool controller signature) (now (held .entry)) length ⌝ }
+    ensures held { λ _. ⌜ now (held .exit) ≡ spec.written (spec.appendBytes seal)
+        (spec.front (now (genesis .entry)) (clock .0) (now (held .entry)) length pool controller signature)
+        (now (held .entry)) length ⌝ }
 {
     let fronted = front(genesis, clock, &*held, length, pool, controller, signature);
     let answer = fronted.answer;
@@ -242,9 +246,13 @@ pub fn block_text(
     signature: [u8; 64],
     out: &mut [u8],
 ) -> Issued
-    ensures answer { λ r. ⌜ toldIssued r ≡ spec.writing spec.textBytes (spec.front (now (genesis .entry)) (clock .0) (now (held .entry)) length pool controller signature) (now (out .entry)) 0 ⌝ }
+    ensures answer { λ r. ⌜ toldIssued r ≡ spec.writing spec.textBytes
+        (spec.front (now (genesis .entry)) (clock .0) (now (held .entry)) length pool controller signature)
+        (now (out .entry)) 0 ⌝ }
     ensures length { λ r. ⌜ r .length ≡ lengthOr (toldIssued r) ⌝ }
-    ensures out { λ _. ⌜ now (out .exit) ≡ spec.written spec.textBytes (spec.front (now (genesis .entry)) (clock .0) (now (held .entry)) length pool controller signature) (now (out .entry)) 0 ⌝ }
+    ensures out { λ _. ⌜ now (out .exit) ≡ spec.written spec.textBytes
+        (spec.front (now (genesis .entry)) (clock .0) (now (held .entry)) length pool controller signature)
+        (now (out .entry)) 0 ⌝ }
 {
     let fronted = front(genesis, clock, held, length, pool, controller, signature);
     let answer = fronted.answer;

@@ -83,9 +83,13 @@ pub extern "C" fn ledger_choose(
     delivered: &[u8],
     verdicts: &[u8],
 ) -> ChooseAnswer
-    ensures refusal { λ r. ⌜ r .refusal ≡ numberOf (choice (now (genesis .entry)) (clock .0) (now (held .entry)) (now (delivered .entry)) (now (verdicts .entry))) ⌝ }
-    ensures place { λ r. ⌜ r .place ≡ placeOf (choice (now (genesis .entry)) (clock .0) (now (held .entry)) (now (delivered .entry)) (now (verdicts .entry))) ⌝ }
-    ensures shown { λ r. ⌜ r .delivered ≡ chosen (choice (now (genesis .entry)) (clock .0) (now (held .entry)) (now (delivered .entry)) (now (verdicts .entry))) false true ⌝ }
+    ensures refusal { λ r. ⌜ r .refusal ≡ numberOf
+        (choice (now (genesis .entry)) (clock .0) (now (held .entry)) (now (delivered .entry)) (now (verdicts .entry))) ⌝ }
+    ensures place { λ r. ⌜ r .place ≡ placeOf
+        (choice (now (genesis .entry)) (clock .0) (now (held .entry)) (now (delivered .entry)) (now (verdicts .entry))) ⌝ }
+    ensures shown { λ r. ⌜ r .delivered ≡ chosen
+        (choice (now (genesis .entry)) (clock .0) (now (held .entry)) (now (delivered .entry)) (now (verdicts .entry)))
+        false true ⌝ }
 {
     let answer = adopt::judge(genesis, clock, held, held.len(), delivered, verdicts).answer;
     ChooseAnswer {
@@ -104,10 +108,18 @@ pub extern "C" fn ledger_adopt(
     delivered: &[u8],
     verdicts: &[u8],
 ) -> AdoptAnswer
-    ensures refusal { λ r. ⌜ r .refusal ≡ numberOf (adopted (accepted (now (genesis .entry)) (clock .0) (now (held .entry)) length (now (delivered .entry)) (now (verdicts .entry))) (now (held .entry)) (now (delivered .entry))) ⌝ }
-    ensures place { λ r. ⌜ r .place ≡ placeOf (adopted (accepted (now (genesis .entry)) (clock .0) (now (held .entry)) length (now (delivered .entry)) (now (verdicts .entry))) (now (held .entry)) (now (delivered .entry))) ⌝ }
-    ensures values { λ r. ⌜ (r .length, r .count .0) ≡ sizeAndCountOr (adopted (accepted (now (genesis .entry)) (clock .0) (now (held .entry)) length (now (delivered .entry)) (now (verdicts .entry))) (now (held .entry)) (now (delivered .entry))) ⌝ }
-    ensures held { λ _. ⌜ now (held .exit) ≡ adopting (accepted (now (genesis .entry)) (clock .0) (now (held .entry)) length (now (delivered .entry)) (now (verdicts .entry))) (now (held .entry)) (now (delivered .entry)) ⌝ }
+    ensures refusal { λ r. ⌜ r .refusal ≡ numberOf (adopted
+        (accepted (now (genesis .entry)) (clock .0) (now (held .entry)) length (now (delivered .entry)) (now (verdicts .entry)))
+        (now (held .entry)) (now (delivered .entry))) ⌝ }
+    ensures place { λ r. ⌜ r .place ≡ placeOf (adopted
+        (accepted (now (genesis .entry)) (clock .0) (now (held .entry)) length (now (delivered .entry)) (now (verdicts .entry)))
+        (now (held .entry)) (now (delivered .entry))) ⌝ }
+    ensures values { λ r. ⌜ (r .length, r .count .0) ≡ sizeAndCountOr (adopted
+        (accepted (now (genesis .entry)) (clock .0) (now (held .entry)) length (now (delivered .entry)) (now (verdicts .entry)))
+        (now (held .entry)) (now (delivered .entry))) ⌝ }
+    ensures held { λ _. ⌜ now (held .exit) ≡ adopting
+        (accepted (now (genesis .entry)) (clock .0) (now (held .entry)) length (now (delivered .entry)) (now (verdicts .entry)))
+        (now (held .entry)) (now (delivered .entry)) ⌝ }
 {
     let adopted = adopt::adopt(genesis, clock, held, length, delivered, verdicts);
     let answer = adopted.answer;

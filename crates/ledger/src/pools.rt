@@ -66,10 +66,18 @@ pub extern "C" fn ledger_draft(
     slot_signature: Signature,
     out: &mut [u8],
 ) -> IssueAnswer
-    ensures refusal { λ r. ⌜ r .refusal ≡ numberOf (spec.writing spec.draftBytes (spec.front (now (genesis .entry)) (clock .0) (now (held .entry)) length pool controller («slot_signature» .bytes)) (now (out .entry)) 0) ⌝ }
-    ensures place { λ r. ⌜ r .place ≡ placeOf (spec.writing spec.draftBytes (spec.front (now (genesis .entry)) (clock .0) (now (held .entry)) length pool controller («slot_signature» .bytes)) (now (out .entry)) 0) ⌝ }
-    ensures length { λ r. ⌜ r .length ≡ lengthOr (spec.writing spec.draftBytes (spec.front (now (genesis .entry)) (clock .0) (now (held .entry)) length pool controller («slot_signature» .bytes)) (now (out .entry)) 0) ⌝ }
-    ensures out { λ _. ⌜ now (out .exit) ≡ spec.written spec.draftBytes (spec.front (now (genesis .entry)) (clock .0) (now (held .entry)) length pool controller («slot_signature» .bytes)) (now (out .entry)) 0 ⌝ }
+    ensures refusal { λ r. ⌜ r .refusal ≡ numberOf (spec.writing spec.draftBytes
+        (spec.front (now (genesis .entry)) (clock .0) (now (held .entry)) length pool controller («slot_signature» .bytes))
+        (now (out .entry)) 0) ⌝ }
+    ensures place { λ r. ⌜ r .place ≡ placeOf (spec.writing spec.draftBytes
+        (spec.front (now (genesis .entry)) (clock .0) (now (held .entry)) length pool controller («slot_signature» .bytes))
+        (now (out .entry)) 0) ⌝ }
+    ensures length { λ r. ⌜ r .length ≡ lengthOr (spec.writing spec.draftBytes
+        (spec.front (now (genesis .entry)) (clock .0) (now (held .entry)) length pool controller («slot_signature» .bytes))
+        (now (out .entry)) 0) ⌝ }
+    ensures out { λ _. ⌜ now (out .exit) ≡ spec.written spec.draftBytes
+        (spec.front (now (genesis .entry)) (clock .0) (now (held .entry)) length pool controller («slot_signature» .bytes))
+        (now (out .entry)) 0 ⌝ }
 {
     let signature = slot_signature.bytes;
     let issued = issue::draft(
@@ -101,10 +109,18 @@ pub extern "C" fn ledger_block_text(
     slot_signature: Signature,
     out: &mut [u8],
 ) -> IssueAnswer
-    ensures refusal { λ r. ⌜ r .refusal ≡ numberOf (spec.writing spec.textBytes (spec.front (now (genesis .entry)) (clock .0) (now (held .entry)) length pool controller («slot_signature» .bytes)) (now (out .entry)) 0) ⌝ }
-    ensures place { λ r. ⌜ r .place ≡ placeOf (spec.writing spec.textBytes (spec.front (now (genesis .entry)) (clock .0) (now (held .entry)) length pool controller («slot_signature» .bytes)) (now (out .entry)) 0) ⌝ }
-    ensures length { λ r. ⌜ r .length ≡ lengthOr (spec.writing spec.textBytes (spec.front (now (genesis .entry)) (clock .0) (now (held .entry)) length pool controller («slot_signature» .bytes)) (now (out .entry)) 0) ⌝ }
-    ensures out { λ _. ⌜ now (out .exit) ≡ spec.written spec.textBytes (spec.front (now (genesis .entry)) (clock .0) (now (held .entry)) length pool controller («slot_signature» .bytes)) (now (out .entry)) 0 ⌝ }
+    ensures refusal { λ r. ⌜ r .refusal ≡ numberOf (spec.writing spec.textBytes
+        (spec.front (now (genesis .entry)) (clock .0) (now (held .entry)) length pool controller («slot_signature» .bytes))
+        (now (out .entry)) 0) ⌝ }
+    ensures place { λ r. ⌜ r .place ≡ placeOf (spec.writing spec.textBytes
+        (spec.front (now (genesis .entry)) (clock .0) (now (held .entry)) length pool controller («slot_signature» .bytes))
+        (now (out .entry)) 0) ⌝ }
+    ensures length { λ r. ⌜ r .length ≡ lengthOr (spec.writing spec.textBytes
+        (spec.front (now (genesis .entry)) (clock .0) (now (held .entry)) length pool controller («slot_signature» .bytes))
+        (now (out .entry)) 0) ⌝ }
+    ensures out { λ _. ⌜ now (out .exit) ≡ spec.written spec.textBytes
+        (spec.front (now (genesis .entry)) (clock .0) (now (held .entry)) length pool controller («slot_signature» .bytes))
+        (now (out .entry)) 0 ⌝ }
 {
     let signature = slot_signature.bytes;
     let issued = issue::block_text(
@@ -136,10 +152,18 @@ pub extern "C" fn ledger_append(
     slot_signature: Signature,
     block_signature: Signature,
 ) -> IssueAnswer
-    ensures refusal { λ r. ⌜ r .refusal ≡ numberOf (spec.writing (spec.appendBytes («block_signature» .bytes)) (spec.front (now (genesis .entry)) (clock .0) (now (held .entry)) length pool controller («slot_signature» .bytes)) (now (held .entry)) length) ⌝ }
-    ensures place { λ r. ⌜ r .place ≡ placeOf (spec.writing (spec.appendBytes («block_signature» .bytes)) (spec.front (now (genesis .entry)) (clock .0) (now (held .entry)) length pool controller («slot_signature» .bytes)) (now (held .entry)) length) ⌝ }
-    ensures length { λ r. ⌜ r .length ≡ lengthOr (spec.writing (spec.appendBytes («block_signature» .bytes)) (spec.front (now (genesis .entry)) (clock .0) (now (held .entry)) length pool controller («slot_signature» .bytes)) (now (held .entry)) length) ⌝ }
-    ensures held { λ _. ⌜ now (held .exit) ≡ spec.written (spec.appendBytes («block_signature» .bytes)) (spec.front (now (genesis .entry)) (clock .0) (now (held .entry)) length pool controller («slot_signature» .bytes)) (now (held .entry)) length ⌝ }
+    ensures refusal { λ r. ⌜ r .refusal ≡ numberOf (spec.writing (spec.appendBytes («block_signature» .bytes))
+        (spec.front (now (genesis .entry)) (clock .0) (now (held .entry)) length pool controller («slot_signature» .bytes))
+        (now (held .entry)) length) ⌝ }
+    ensures place { λ r. ⌜ r .place ≡ placeOf (spec.writing (spec.appendBytes («block_signature» .bytes))
+        (spec.front (now (genesis .entry)) (clock .0) (now (held .entry)) length pool controller («slot_signature» .bytes))
+        (now (held .entry)) length) ⌝ }
+    ensures length { λ r. ⌜ r .length ≡ lengthOr (spec.writing (spec.appendBytes («block_signature» .bytes))
+        (spec.front (now (genesis .entry)) (clock .0) (now (held .entry)) length pool controller («slot_signature» .bytes))
+        (now (held .entry)) length) ⌝ }
+    ensures held { λ _. ⌜ now (held .exit) ≡ spec.written (spec.appendBytes («block_signature» .bytes))
+        (spec.front (now (genesis .entry)) (clock .0) (now (held .entry)) length pool controller («slot_signature» .bytes))
+        (now (held .entry)) length ⌝ }
 {
     let signature = slot_signature.bytes;
     let seal = block_signature.bytes;
