@@ -1,7 +1,6 @@
 -- No call, as its contract defines it, is one of the wrong versions that 01 names. A call is looked at in one argument, and an input of it is taken
 -- that the call accepts, and one that it refuses.
 -- Assumes nothing.
-use Prim.Native.Nat.{ℕ}
 use mathlib.Core.Path.{_≡_, refl, ap}
 use mathlib.Core.Bool.{true}
 use mathlib.Core.List.{[], _∷_, _++_}
@@ -155,8 +154,8 @@ appending-touches =
     touched _ (λ b. getD b 33 0) (zeros 162) 0 1 refl
     (ap (λ t. getD (issued (appendBytes signature) (front-from 1 t) (zeros 162) 0) 33 0) (opens 1 refl)) refl
 
--- ---- "one that checks the first block fully and nods the later ones through": whatever is wrong with the second block, 3 to 8. That
--- its link (9) and its orders (10) are judged too: `follows`, which the theorems of crate chain are about
+-- ---- "one that checks the first block fully and nods the later ones through": whatever is wrong with the second block, 3 to 8. For every chain and
+-- every refusal it is `the-first-bad-block-is-refused` of crate chain
 pub the-second-block-is-judged-as-the-first-is :
     every (λ s. refusedAs (s .number) 2 (checked genesis 4 (first ++ s .bytes) (s .verdicts))) seconds ≡ true
 unfolding deliveredChain run judged blockAt numberAt readGroups
