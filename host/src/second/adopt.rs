@@ -106,10 +106,7 @@ mod tests {
             let judge = |delivered: &[u8], verdicts: &[u8]| {
                 judge(&genesis, Slot(1), &held, held.len(), delivered, verdicts)
             };
-            let refused = Err(Refusal {
-                number: 7,
-                place: 1,
-            });
+            let refused = Err(samples::at(7, 1));
             let chain = samples::good_chain(&genesis);
             assert_eq!(judge(&chain, &[3; 5]), refused);
             assert_eq!(judge(&chain, &[]), refused);
@@ -200,10 +197,7 @@ mod tests {
     #[test]
     fn bad_and_missing_verdicts() {
         for place in [1, 3, 5] {
-            let refused = Some(Refusal {
-                number: 8,
-                place: place as u32,
-            });
+            let refused = Some(samples::at(8, place));
             let mut case = Case::good();
             case.verdicts[place - 1] = 1;
             samples::answers(refused, "bad", case.clone(), call);

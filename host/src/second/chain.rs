@@ -168,12 +168,7 @@ pub fn check(
 mod tests {
     use super::*;
     use crate::second::order::Order;
-    use crate::second::samples::{self, order, BLOCK, NOW};
-
-    /// A refusal at a block.
-    fn at(number: u32, place: u32) -> Refusal {
-        Refusal { number, place }
-    }
+    use crate::second::samples::{self, at, order, BLOCK, NOW};
 
     fn starting_releases() -> Releases {
         samples::genesis(6, 1, 5).releases
@@ -248,7 +243,7 @@ mod tests {
                 let mut blocks = samples::blocks();
                 blocks[place - 1].slot = Slot((blocks[place - 2].slot.0 - below).max(1));
                 let chain = samples::chain(&genesis, &blocks);
-                assert_eq!(check_good(&chain), Err(at(6, place as u32)));
+                assert_eq!(check_good(&chain), Err(at(6, place)));
             }
         }
     }
@@ -273,7 +268,7 @@ mod tests {
             for verdict in (0..=255).filter(|verdict| *verdict != 3) {
                 let mut verdicts = samples::verdicts(5);
                 verdicts[place - 1] = verdict;
-                let refused = Err(at(8, place as u32));
+                let refused = Err(at(8, place));
                 assert_eq!(check(&genesis, NOW, &chain, &verdicts), refused);
             }
         }
@@ -285,7 +280,7 @@ mod tests {
         let chain = samples::good_chain(&genesis);
         for given in 0..5 {
             let verdicts = samples::verdicts(given);
-            let refused = Err(at(8, given as u32 + 1));
+            let refused = Err(at(8, given + 1));
             assert_eq!(check(&genesis, NOW, &chain, &verdicts), refused);
         }
         let answer = check(&genesis, NOW, &chain, &[3, 3, 3, 3, 3, 0, 255]);
@@ -302,7 +297,7 @@ mod tests {
             for signature in [37, 101, BLOCK - 1] {
                 let mut changed = chain.clone();
                 changed[BLOCK * (place - 1) + signature] ^= 1;
-                assert_eq!(check_good(&changed), Err(at(9, place as u32 + 1)));
+                assert_eq!(check_good(&changed), Err(at(9, place + 1)));
             }
         }
         for left_out in [64, 128] {

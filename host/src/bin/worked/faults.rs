@@ -1,15 +1,7 @@
 //! What the cases of the calls on chains are made of: the samples' arguments of a call, with a fault or two in them.
-pub use host::second::samples::Case as Arguments;
 use host::second::samples::{self, adopting_faults, Edit, Fault, EDITS};
+pub use host::second::samples::{at, Case as Arguments};
 use host::second::Refusal;
-
-/// A refusal of a block, counted from 1.
-pub fn at(number: u32, place: usize) -> Refusal {
-    Refusal {
-        number,
-        place: place as u32,
-    }
-}
 
 /// The samples' first fault of one block that meets this number.
 pub fn edit(number: u32) -> &'static Edit {

@@ -2,8 +2,8 @@
 use std::mem;
 
 use super::{
-    bad_chains, bad_geneses, bad_lengths, bad_pools, chain, empty_blocks, entry, good_chain, order,
-    put, table, verdicts, BAD_NOWS, BLOCK, COUNT, DISPLAY, FILLER, NEW, NOW, SLOT,
+    at, bad_chains, bad_geneses, bad_lengths, bad_pools, chain, empty_blocks, entry, good_chain,
+    order, put, table, verdicts, BAD_NOWS, BLOCK, COUNT, DISPLAY, FILLER, NEW, NOW, SLOT,
 };
 use crate::calls::{Adopt, Append, Check, Choose, Offer, Report, Write};
 use crate::second::chain::LONGEST;
@@ -139,31 +139,26 @@ impl Case {
 /// A fault in a good case: the refusal that it meets, and what makes it.
 pub type Fault = (Refusal, fn(&mut Case));
 
-/// A fault of a block.
-fn at(number: u32, place: u32, fault: fn(&mut Case)) -> Fault {
-    (Refusal { number, place }, fault)
-}
-
 /// The faults of adoption in their order, those of the second delivered block among them; 6 and 7 can't meet in one block, so one of the
 /// two is asked for.
 pub fn adopting_faults(stamp: u32) -> Vec<Fault> {
-    let stamp_fault = match stamp {
-        6 => at(6, 2, |case| case.second()[SLOT] = 1),
-        _ => at(7, 2, |case| case.second()[SLOT] = 20),
+    let stamp_fault: Fault = match stamp {
+        6 => (at(6, 2), |case| case.second()[SLOT] = 1),
+        _ => (at(7, 2), |case| case.second()[SLOT] = 20),
     };
     vec![
         (refusal(1), |case| case.genesis.push(0)),
         (refusal(2), |case| case.now = Slot(257)),
-        at(17, 1, |case| case.held[0] ^= 1),
+        (at(17, 1), |case| case.held[0] ^= 1),
         (refusal(16), |case| case.delivered.resize(LONGEST + 1, 0)),
-        at(4, 2, |case| {
+        (at(4, 2), |case| {
             put(&mut case.delivered, BLOCK + COUNT, &[0x81, 0])
         }),
-        at(5, 2, |case| case.second()[DISPLAY] = 64),
+        (at(5, 2), |case| case.second()[DISPLAY] = 64),
         stamp_fault,
-        at(8, 2, |case| case.verdicts[1] = 2),
-        at(9, 2, |case| case.second()[0] ^= 1),
-        at(10, 2, |case| case.second()[NEW] = 41),
+        (at(8, 2), |case| case.verdicts[1] = 2),
+        (at(9, 2), |case| case.second()[0] ^= 1),
+        (at(10, 2), |case| case.second()[NEW] = 41),
         (refusal(11), |case| case.delivered.truncate(2 * BLOCK)),
         (refusal(15), |case| case.held.truncate(case.held_length)),
     ]
@@ -174,7 +169,7 @@ pub fn pooling_faults() -> Vec<Fault> {
     vec![
         (refusal(1), |case| case.genesis.push(0)),
         (refusal(2), |case| case.now = Slot(0)),
-        at(17, 2, |case| case.held[162] ^= 1),
+        (at(17, 2), |case| case.held[162] ^= 1),
         (refusal(18), |case| case.pool.count = 65),
         (refusal(5), |case| case.order.display = 64),
         (refusal(14), |case| case.order.new = case.order.expected),
@@ -190,7 +185,7 @@ pub fn issuing_faults() -> Vec<Fault> {
     vec![
         (refusal(1), |case| case.genesis.push(0)),
         (refusal(2), |case| case.now = Slot(0)),
-        at(17, 1, |case| case.held[0] ^= 1),
+        (at(17, 1), |case| case.held[0] ^= 1),
         (refusal(18), |case| case.pool.entries[0].slot = Slot(0)),
         (refusal(12), |case| case.controller = 3),
         (refusal(6), |case| case.held[162 + 33] = 20),

@@ -99,6 +99,14 @@ pub fn bad_geneses() -> Vec<(String, Vec<u8>)> {
     bad
 }
 
+/// A refusal at a block, counted from 1.
+pub fn at(number: u32, place: usize) -> Refusal {
+    Refusal {
+        number,
+        place: place as u32,
+    }
+}
+
 /// An order.
 pub fn order(display: u32, expected: u32, new: u32) -> Order {
     Order {
@@ -250,15 +258,11 @@ pub const EDITS: [Edit; 31] = [
 pub fn bad_chains(genesis: &[u8]) -> Vec<(String, Vec<u8>, Refusal)> {
     let mut bad = Vec::new();
     for place in [1, 3, 5] {
-        let refused = |number| Refusal {
-            number,
-            place: place as u32,
-        };
         for edit in &EDITS {
             if (edit.number, place) != (6, 1) {
                 let chain = edited_chain(genesis, &blocks(), place, edit.change);
                 let fault = format!("{} in block {place}", edit.name);
-                bad.push((fault, chain, refused(edit.number)));
+                bad.push((fault, chain, at(edit.number, place)));
             }
         }
         let end = BLOCK * (place - 1);
@@ -267,7 +271,7 @@ pub fn bad_chains(genesis: &[u8]) -> Vec<(String, Vec<u8>, Refusal)> {
             bad.push((
                 format!("block {place} cut to {more} bytes"),
                 chain,
-                refused(3),
+                at(3, place),
             ));
         }
     }
@@ -285,9 +289,8 @@ fn leftovers(genesis: &[u8]) -> impl Iterator<Item = (String, Vec<u8>, Refusal)>
         (5, vec![9; 33]),
     ];
     rest.into_iter().map(move |(number, rest)| {
-        let refused = Refusal { number, place: 6 };
         let fault = format!("{} leftover bytes", rest.len());
-        (fault, [&chain[..], &rest].concat(), refused)
+        (fault, [&chain[..], &rest].concat(), at(number, 6))
     })
 }
 
