@@ -3,5 +3,6 @@ pub mod Ranges
 pub mod RoundTrip
 pub mod Whole
 pub mod Lists
+pub mod Lengths
 pub mod Theorems
 pub mod Answers

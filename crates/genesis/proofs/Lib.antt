@@ -1,4 +1,5 @@
 pub mod Faults
 pub mod Sound
 pub mod Answers
+pub mod Lengths
 pub mod Theorems
