@@ -1,17 +1,13 @@
 -- What the answers of this crate tell.
 -- Assumes nothing.
 use Prim.Native.Nat.{ℕ}
-use Rattle.laws.specs.Told.{Told, gives, refuses}
+use Rattle.laws.specs.Told.{Told, givenOr}
 use Rattle.chain.specs.Answers.{toldAnswer}
 use Rattle.adopt.specs.declared.Judged.{Judged}
 use Rattle.adopt.specs.declared.Adopted.{Adopted}
 
 abbrev pub toldJudged : Judged → Told ℕ
 toldJudged j = toldAnswer (j .count .0) (j .answer)
-
-abbrev pub countOr : Told ℕ → ℕ
-countOr (gives count) = count
-countOr (refuses number place) = 0
 
 abbrev pub sizeAndCount : Adopted → ℕ × ℕ
 sizeAndCount a = (a .length, a .count .0)
@@ -21,5 +17,4 @@ toldAdopted a = toldAnswer (sizeAndCount a) (a .answer)
 
 -- a refusal leaves zeros beside it
 abbrev pub sizeAndCountOr : Told (ℕ × ℕ) → ℕ × ℕ
-sizeAndCountOr (gives both) = both
-sizeAndCountOr (refuses number place) = (0, 0)
+sizeAndCountOr t = givenOr (0, 0) t

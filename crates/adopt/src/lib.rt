@@ -7,10 +7,10 @@ use order::Slot;
 use refusal::NOT_LONGER;
 use refusal::SHORT;
 ghost use mathlib.Core.Path.{_≡_};
-ghost use Rattle.laws.specs.Told.{refuses, numberOf, placeOf};
+ghost use Rattle.laws.specs.Told.{refuses, givenOr, numberOf, placeOf};
 ghost use Rattle.chain.specs.Chain as chain;
 ghost use Rattle.adopt.specs.Adopt as spec;
-ghost use Rattle.adopt.specs.Answers.{toldJudged, countOr, toldAdopted, sizeAndCount, sizeAndCountOr};
+ghost use Rattle.adopt.specs.Answers.{toldJudged, toldAdopted, sizeAndCount, sizeAndCountOr};
 
 // Whether a delivered chain replaces the held one, and its block count: 0 where it was refused.
 pub struct Judged {
@@ -36,7 +36,7 @@ pub fn judge(
 ) -> Judged
     ensures answer { λ r. ⌜ toldJudged r ≡
         spec.accepted (now (genesis .entry)) (clock .0) (now (held .entry)) length (now (delivered .entry)) (now (verdicts .entry)) ⌝ }
-    ensures count { λ r. ⌜ r .count .0 ≡ countOr
+    ensures count { λ r. ⌜ r .count .0 ≡ givenOr 0
         (spec.accepted (now (genesis .entry)) (clock .0) (now (held .entry)) length (now (delivered .entry)) (now (verdicts .entry))) ⌝ }
 {
     let holding = chain::hold(genesis, clock, held, length);
@@ -52,7 +52,7 @@ pub fn judge(
 // A delivered chain against the held one's block count.
 fn against(opened: Opened, held: BlockCount, delivered: &[u8], verdicts: &[u8]) -> Judged
     ensures { λ r. ⌜ toldJudged r ≡ spec.longer (held .0) (chain.deliveredChain opened (now (delivered .entry)) (now (verdicts .entry))) ⌝ }
-    ensures { λ r. ⌜ r .count .0 ≡ countOr (toldJudged r) ⌝ }
+    ensures { λ r. ⌜ r .count .0 ≡ givenOr 0 (toldJudged r) ⌝ }
 {
     let passed = chain::delivered(opened, delivered, verdicts);
     let answer = passed.answer;

@@ -3,12 +3,12 @@
 use mathlib.Core.Path.{_≡_, refl, sym, _∙_}
 use mathlib.Core.List.{List}
 use Prim.Native.Nat.{ℕ}
-use Rattle.laws.specs.Told.{Told, gives, refuses}
+use Rattle.laws.specs.Told.{Told, gives, refuses, givenOr}
 use Rattle.laws.specs.Placed.{placed, placing, Room, Wrote}
 use Rattle.laws.specs.Answers.{Faithful}
 use Rattle.laws.proofs.Answers.{undone}
 use Rattle.laws.proofs.Placed.{with-room}
-use Rattle.buffer.specs.Writing.{told, nextOr}
+use Rattle.buffer.specs.Writing.{told}
 use Rattle.buffer.specs.declared.Writing.{Writing}
 use Rattle.buffer.specs.declared.Writing.the-variants.{Next, Short}
 
@@ -25,7 +25,7 @@ pub writing-faithful : Faithful told
 writing-faithful = undone told writingOf writing-back
 
 pub wrote : {out : List ℕ} {at : ℕ} {bytes later : List ℕ} {t : Told ℕ} → Room out at bytes → t ≡ placed out at bytes → later ≡ placing out at bytes
-    → Wrote out at bytes (nextOr at t) later
+    → Wrote out at bytes (givenOr at t) later
 wrote {out} {at} {bytes} room answer buffer =
     let (next, sets) = with-room out at bytes (room .enough) in
     record { place = rw (answer, ← next); buffer = buffer ∙ sym sets }

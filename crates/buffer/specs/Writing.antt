@@ -8,7 +8,3 @@ use Rattle.buffer.specs.declared.Writing.the-variants.{Next, Short}
 abbrev pub told : Writing → Told ℕ
 told (Next next) = gives next
 told Short = refuses 15 0
-
-abbrev pub nextOr : ℕ → Told ℕ → ℕ
-nextOr at (gives next) = next
-nextOr at (refuses number place) = at

@@ -4,8 +4,9 @@ ghost use Prim.Native.Nat.{_+_, _≤_};
 ghost use lib.Dec.{leb};
 ghost use lib.ListN.{length};
 ghost use lib.Seq.{sets};
+ghost use Rattle.laws.specs.Told.{givenOr};
 ghost use Rattle.laws.specs.Placed.{placed, placing};
-ghost use Rattle.buffer.specs.Writing.{told, nextOr};
+ghost use Rattle.buffer.specs.Writing.{told};
 
 // What writing answers.
 pub enum Writing {
@@ -47,7 +48,7 @@ fn copy(out: &mut [u8], at: usize, bytes: &[u8])
 
 // The place after what was written, or the place where it began if nothing was.
 pub fn after(writing: Writing, at: usize) -> usize
-    ensures { λ r. ⌜ r ≡ nextOr at (told writing) ⌝ }
+    ensures { λ r. ⌜ r ≡ givenOr at (told writing) ⌝ }
 {
     match writing {
         Writing::Next(next) => next,

@@ -5,7 +5,7 @@ use mathlib.Core.Bool.{Bool}
 use mathlib.Core.List.{List}
 use lib.ListN.{replicate}
 use Rattle.laws.specs.Pick.{pick}
-use Rattle.laws.specs.Told.{Told, gives, refuses}
+use Rattle.laws.specs.Told.{Told, gives, refuses, givenOr}
 use Rattle.chain.specs.Chain as chain
 use Rattle.chain.specs.declared.Standing.{Standing}
 use Rattle.chain.specs.declared.Way.{Way}
@@ -47,8 +47,7 @@ toldPassed p = toldAnswer (p .summary) (p .answer)
 
 -- a refusal leaves the chain of no blocks
 abbrev pub summaryOr : Opened → Told Summary → Summary
-summaryOr o (gives s) = s
-summaryOr o (refuses number place) = chain.begun o
+summaryOr o t = givenOr (chain.begun o) t
 
 abbrev pub toldOpening : Opening → Told Opened
 toldOpening p = toldAnswer (p .opened) (p .answer)
@@ -58,8 +57,7 @@ abbrev pub noOpened : Opened
 noOpened = record { table = noTable; link = replicate 32 0; clock = record { 0 = 0 } }
 
 abbrev pub openedOr : Told Opened → Opened
-openedOr (gives o) = o
-openedOr (refuses number place) = noOpened
+openedOr t = givenOr noOpened t
 
 abbrev pub endOf : Checked → ℕ × List ℕ
 endOf c = (c .count .0, c .releases)
@@ -71,8 +69,7 @@ abbrev pub noEnd : ℕ × List ℕ
 noEnd = (0, replicate 64 0)
 
 abbrev pub endOr : Told (ℕ × List ℕ) → ℕ × List ℕ
-endOr (gives e) = e
-endOr (refuses number place) = noEnd
+endOr t = givenOr noEnd t
 
 abbrev pub toldHolding : Holding → Told (Opened × Summary)
 toldHolding h = toldAnswer (h .opened, h .summary) (h .answer)

@@ -3,7 +3,7 @@
 use Prim.Native.Nat.{ℕ}
 use mathlib.Core.List.{List}
 use lib.ListN.{replicate}
-use Rattle.laws.specs.Told.{Told, gives, refuses, Found, found}
+use Rattle.laws.specs.Told.{Told, gives, refuses, Found, found, givenOr}
 use Rattle.genesis.specs.Genesis.{genesisOf}
 use Rattle.genesis.specs.declared.Genesis.{Genesis}
 use Rattle.genesis.specs.declared.Answer.{Answer}
@@ -30,8 +30,7 @@ abbrev pub noTable : Genesis
 noTable = record { n = 0; t = 0; u = 0; releases = replicate 64 0; keys = 0 }
 
 abbrev pub tableOr : Told Genesis → Genesis
-tableOr (gives g) = g
-tableOr (refuses number place) = noTable
+tableOr t = givenOr noTable t
 
 abbrev pub tableOf : List ℕ → Genesis
 tableOf s = tableOr (genesisOf s)

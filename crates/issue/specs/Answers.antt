@@ -1,7 +1,7 @@
 -- What the answers of this crate tell.
 -- Assumes nothing.
 use Prim.Native.Nat.{ℕ}
-use Rattle.laws.specs.Told.{Told, gives, refuses}
+use Rattle.laws.specs.Told.{Told}
 use Rattle.block.specs.declared.Front.{Front}
 use Rattle.chain.specs.Answers.{toldAnswer}
 use Rattle.issue.specs.declared.Fronted.{Fronted}
@@ -12,8 +12,3 @@ toldFronted r = toldAnswer (r .front) (r .answer)
 
 abbrev pub toldIssued : Issued → Told ℕ
 toldIssued r = toldAnswer (r .length) (r .answer)
-
--- a refusal leaves a length of 0
-abbrev pub lengthOr : Told ℕ → ℕ
-lengthOr (gives length) = length
-lengthOr (refuses number place) = 0

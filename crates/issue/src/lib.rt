@@ -17,11 +17,11 @@ use refusal::TURN;
 ghost use mathlib.Core.Path.{_≡_};
 ghost use mathlib.Core.Bool.{true};
 ghost use lib.ListN.{take};
-ghost use Rattle.laws.specs.Told.{refuses};
+ghost use Rattle.laws.specs.Told.{refuses, givenOr};
 ghost use Rattle.laws.specs.Placed.{placed, placing};
 ghost use Rattle.block.specs.Blocks.{toldNext, frontFits};
 ghost use Rattle.issue.specs.Issue as spec;
-ghost use Rattle.issue.specs.Answers.{toldFronted, toldIssued, lengthOr};
+ghost use Rattle.issue.specs.Answers.{toldFronted, toldIssued};
 
 // The most orders that a block has.
 pub const ORDERS: u32 = 8;
@@ -166,7 +166,7 @@ pub fn draft(
     ensures answer { λ r. ⌜ toldIssued r ≡ spec.writing spec.draftBytes
         (spec.front (now (genesis .entry)) (clock .0) (now (held .entry)) length pool controller signature)
         (now (out .entry)) 0 ⌝ }
-    ensures length { λ r. ⌜ r .length ≡ lengthOr (toldIssued r) ⌝ }
+    ensures length { λ r. ⌜ r .length ≡ givenOr 0 (toldIssued r) ⌝ }
     ensures out { λ _. ⌜ now (out .exit) ≡ spec.written spec.draftBytes
         (spec.front (now (genesis .entry)) (clock .0) (now (held .entry)) length pool controller signature)
         (now (out .entry)) 0 ⌝ }
@@ -194,7 +194,7 @@ pub fn append(
     ensures answer { λ r. ⌜ toldIssued r ≡ spec.writing (spec.appendBytes seal)
         (spec.front (now (genesis .entry)) (clock .0) (now (held .entry)) length pool controller signature)
         (now (held .entry)) length ⌝ }
-    ensures length { λ r. ⌜ r .length ≡ lengthOr (toldIssued r) ⌝ }
+    ensures length { λ r. ⌜ r .length ≡ givenOr 0 (toldIssued r) ⌝ }
     ensures held { λ _. ⌜ now (held .exit) ≡ spec.written (spec.appendBytes seal)
         (spec.front (now (genesis .entry)) (clock .0) (now (held .entry)) length pool controller signature)
         (now (held .entry)) length ⌝ }
@@ -215,7 +215,7 @@ pub fn append(
 }
 
 fn told(place: Place) -> Issued
-    ensures { λ r. ⌜ (toldIssued r ≡ toldNext place) × (r .length ≡ lengthOr (toldIssued r)) ⌝ }
+    ensures { λ r. ⌜ (toldIssued r ≡ toldNext place) × (r .length ≡ givenOr 0 (toldIssued r)) ⌝ }
 {
     match place {
         Place::Next(length) => Issued {
@@ -227,7 +227,7 @@ fn told(place: Place) -> Issued
 }
 
 fn refused(number: u32, place: BlockCount) -> Issued
-    ensures { λ r. ⌜ (toldIssued r ≡ refuses number (place .0)) × (r .length ≡ lengthOr (toldIssued r)) ⌝ }
+    ensures { λ r. ⌜ (toldIssued r ≡ refuses number (place .0)) × (r .length ≡ givenOr 0 (toldIssued r)) ⌝ }
 {
     Issued {
         answer: Answer::Refused(number, place),
@@ -249,7 +249,7 @@ pub fn block_text(
     ensures answer { λ r. ⌜ toldIssued r ≡ spec.writing spec.textBytes
         (spec.front (now (genesis .entry)) (clock .0) (now (held .entry)) length pool controller signature)
         (now (out .entry)) 0 ⌝ }
-    ensures length { λ r. ⌜ r .length ≡ lengthOr (toldIssued r) ⌝ }
+    ensures length { λ r. ⌜ r .length ≡ givenOr 0 (toldIssued r) ⌝ }
     ensures out { λ _. ⌜ now (out .exit) ≡ spec.written spec.textBytes
         (spec.front (now (genesis .entry)) (clock .0) (now (held .entry)) length pool controller signature)
         (now (out .entry)) 0 ⌝ }
@@ -267,7 +267,7 @@ pub fn block_text(
 fn text(out: &mut [u8], front: Front) -> Issued
     requires { ⌜ frontFits front ≡ true ⌝ }
     ensures { λ r. ⌜ toldIssued r ≡ placed (now (out .entry)) 0 (spec.textBytes front) ⌝ }
-    ensures { λ r. ⌜ r .length ≡ lengthOr (toldIssued r) ⌝ }
+    ensures { λ r. ⌜ r .length ≡ givenOr 0 (toldIssued r) ⌝ }
     ensures { λ _. ⌜ now (out .exit) ≡ placing (now (out .entry)) 0 (spec.textBytes front) ⌝ }
 {
     let letters = b"block";

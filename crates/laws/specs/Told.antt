@@ -25,6 +25,11 @@ then (refuses number place) go = refuses number place
 abbrev pub unless : {A : Type 0} → Bool → ℕ → ℕ → Told A → Told A
 unless fine number place go = pick fine go (refuses number place)
 
+-- what an answer gives, or what stands beside a refusal
+abbrev pub givenOr : {A : Type 0} → A → Told A → A
+givenOr beside (gives a) = a
+givenOr beside (refuses number place) = beside
+
 -- the refusal's number, 0 where there is none, and its place
 abbrev pub numberOf : {A : Type 0} → Told A → ℕ
 numberOf (gives a) = 0

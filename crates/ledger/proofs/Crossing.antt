@@ -3,7 +3,7 @@
 use Prim.Native.Nat.{ℕ}
 use mathlib.Core.Path.{_≡_, ap}
 use mathlib.Core.Bool.{true, false}
-use Rattle.laws.specs.Told.{Told, Found, numberOf, placeOf}
+use Rattle.laws.specs.Told.{Told, Found, givenOr, numberOf, placeOf}
 use Rattle.block.specs.Answers.{toldPlace}
 use Rattle.block.specs.Blocks.{toldNext}
 use Rattle.block.specs.declared.reading.Place.{Place}
@@ -11,7 +11,7 @@ use Rattle.chain.specs.Answers.{toldAnswer}
 use Rattle.chain.specs.declared.pass.Answer.{Answer}
 use Rattle.chain.specs.declared.pass.Answer.the-variants.{Good, Refused}
 use Rattle.adopt.specs.Adopt.{chosen}
-use Rattle.ledger.specs.Answers.{numberIn, placeIn, goodIn, numberAt, nextAt, givenOr0, nextOr0}
+use Rattle.ledger.specs.Answers.{numberIn, placeIn, goodIn, numberAt, nextAt, nextOr0}
 use Rattle.block.specs.declared.reading.Place.the-variants as place
 
 -- answers of calls on chains
@@ -38,7 +38,7 @@ found-crosses a (place.Next next) told = record { number = ap numberOf told; no-
 found-crosses a (place.Refused number) told =
     record { number = ap numberOf told; no-place = ap placeOf told; value = ap nextOr0 told }
 
-pub next-crosses : (p : Place) {t : Told ℕ} → toldNext p ≡ t → Crosses givenOr0 p t
-next-crosses (place.Next next) told = record { number = ap numberOf told; no-place = ap placeOf told; value = ap givenOr0 told }
+pub next-crosses : (p : Place) {t : Told ℕ} → toldNext p ≡ t → Crosses (givenOr 0) p t
+next-crosses (place.Next next) told = record { number = ap numberOf told; no-place = ap placeOf told; value = ap (givenOr 0) told }
 next-crosses (place.Refused number) told =
-    record { number = ap numberOf told; no-place = ap placeOf told; value = ap givenOr0 told }
+    record { number = ap numberOf told; no-place = ap placeOf told; value = ap (givenOr 0) told }

@@ -31,11 +31,6 @@ abbrev pub nextAt : Place → ℕ
 nextAt (place.Next next) = next
 nextAt (place.Refused number) = 0
 
--- a number that is given
-abbrev pub givenOr0 : Told ℕ → ℕ
-givenOr0 (gives value) = value
-givenOr0 (refuses number place) = 0
-
 -- what is found at a place of a slice, and the place after it
 abbrev pub valueOr0 : Told (Found ℕ) → ℕ
 valueOr0 (gives f) = f .value

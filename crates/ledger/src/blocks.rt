@@ -5,13 +5,13 @@ use block::Place;
 use order::Slot;
 use walk::Reached;
 ghost use mathlib.Core.Path.{_≡_};
-ghost use Rattle.laws.specs.Told.{numberOf, placeOf};
+ghost use Rattle.laws.specs.Told.{givenOr, numberOf, placeOf};
 ghost use Rattle.laws.specs.Every as spec;
 ghost use Rattle.laws.specs.Placed.{placedIf, placingIf};
 ghost use Rattle.block.specs.Block.{blockAt, blockBytes};
 ghost use Rattle.block.specs.Blocks.{partsIn, blockOf, frontFits, slotText};
 ghost use Rattle.walk.specs.Walk.{stepAt, placeAfter, blockBeside};
-ghost use Rattle.ledger.specs.Answers.{numberAt, nextAt, givenOr0, nextOr0, isEnd};
+ghost use Rattle.ledger.specs.Answers.{numberAt, nextAt, nextOr0, isEnd};
 
 // A block, and the place after it. The block is all zeros where it was refused.
 #[repr(C)]
@@ -54,7 +54,7 @@ pub extern "C" fn ledger_read_block(bytes: &[u8], at: usize) -> BlockAnswer
 pub extern "C" fn ledger_write_block(out: &mut [u8], at: usize, block: Block) -> WriteAnswer
     ensures refusal { λ r. ⌜ r .refusal ≡ numberOf (placedIf (frontFits (block .front)) 5 (now (out .entry)) at (blockBytes (partsIn block))) ⌝ }
     ensures place { λ r. ⌜ r .place ≡ placeOf (placedIf (frontFits (block .front)) 5 (now (out .entry)) at (blockBytes (partsIn block))) ⌝ }
-    ensures next { λ r. ⌜ r .next ≡ givenOr0 (placedIf (frontFits (block .front)) 5 (now (out .entry)) at (blockBytes (partsIn block))) ⌝ }
+    ensures next { λ r. ⌜ r .next ≡ givenOr 0 (placedIf (frontFits (block .front)) 5 (now (out .entry)) at (blockBytes (partsIn block))) ⌝ }
     ensures buffer { λ _. ⌜ now (out .exit) ≡ placingIf (frontFits (block .front)) (now (out .entry)) at (blockBytes (partsIn block)) ⌝ }
 {
     let place = block::write(out, at, block);
@@ -69,7 +69,7 @@ pub extern "C" fn ledger_write_block(out: &mut [u8], at: usize, block: Block) ->
 pub extern "C" fn ledger_slot_text(out: &mut [u8], slot: Slot) -> WriteAnswer
     ensures refusal { λ r. ⌜ r .refusal ≡ numberOf (placedIf (spec.within 1 256 (slot .0)) 2 (now (out .entry)) 0 (slotText (slot .0))) ⌝ }
     ensures place { λ r. ⌜ r .place ≡ placeOf (placedIf (spec.within 1 256 (slot .0)) 2 (now (out .entry)) 0 (slotText (slot .0))) ⌝ }
-    ensures next { λ r. ⌜ r .next ≡ givenOr0 (placedIf (spec.within 1 256 (slot .0)) 2 (now (out .entry)) 0 (slotText (slot .0))) ⌝ }
+    ensures next { λ r. ⌜ r .next ≡ givenOr 0 (placedIf (spec.within 1 256 (slot .0)) 2 (now (out .entry)) 0 (slotText (slot .0))) ⌝ }
     ensures buffer { λ _. ⌜ now (out .exit) ≡ placingIf (spec.within 1 256 (slot .0)) (now (out .entry)) 0 (slotText (slot .0)) ⌝ }
 {
     let place = block::slot_text(out, slot);

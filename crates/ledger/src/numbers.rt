@@ -8,12 +8,12 @@ use refusal::LONG;
 use refusal::SHORT;
 use sha256::Answer;
 ghost use mathlib.Core.Path.{_≡_};
-ghost use Rattle.laws.specs.Told.{numberOf, placeOf};
+ghost use Rattle.laws.specs.Told.{givenOr, numberOf, placeOf};
 ghost use Rattle.laws.specs.Placed.{placed, placing};
 ghost use Rattle.number.specs.Number.{written, numberAt};
 ghost use Rattle.sha256.specs.Sha256.{digestOf};
 ghost use Rattle.sha256.specs.Answer.{bytesOf};
-ghost use Rattle.ledger.specs.Answers.{givenOr0, valueOr0, nextOr0};
+ghost use Rattle.ledger.specs.Answers.{valueOr0, nextOr0};
 
 // A number, and the place after it.
 #[repr(C)]
@@ -72,7 +72,7 @@ pub extern "C" fn ledger_read_number(bytes: &[u8], at: usize) -> NumberAnswer
 pub extern "C" fn ledger_write_number(out: &mut [u8], at: usize, value: Number) -> WriteAnswer
     ensures refusal { λ r. ⌜ r .refusal ≡ numberOf (placed (now (out .entry)) at (written value)) ⌝ }
     ensures place { λ r. ⌜ r .place ≡ placeOf (placed (now (out .entry)) at (written value)) ⌝ }
-    ensures next { λ r. ⌜ r .next ≡ givenOr0 (placed (now (out .entry)) at (written value)) ⌝ }
+    ensures next { λ r. ⌜ r .next ≡ givenOr 0 (placed (now (out .entry)) at (written value)) ⌝ }
     ensures buffer { λ _. ⌜ now (out .exit) ≡ placing (now (out .entry)) at (written value) ⌝ }
 {
     match number::write(out, at, value) {

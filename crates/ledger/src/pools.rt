@@ -5,11 +5,10 @@ use order::Order;
 use order::Slot;
 use pool::Pool;
 ghost use mathlib.Core.Path.{_≡_};
-ghost use Rattle.laws.specs.Told.{numberOf, placeOf};
+ghost use Rattle.laws.specs.Told.{givenOr, numberOf, placeOf};
 ghost use Rattle.pool.specs.Pool.{offered};
 ghost use Rattle.pool.specs.Answers.{poolOr};
 ghost use Rattle.issue.specs.Issue as spec;
-ghost use Rattle.issue.specs.Answers.{lengthOr};
 
 #[repr(C)]
 pub struct Signature {
@@ -72,7 +71,7 @@ pub extern "C" fn ledger_draft(
     ensures place { λ r. ⌜ r .place ≡ placeOf (spec.writing spec.draftBytes
         (spec.front (now (genesis .entry)) (clock .0) (now (held .entry)) length pool controller («slot_signature» .bytes))
         (now (out .entry)) 0) ⌝ }
-    ensures length { λ r. ⌜ r .length ≡ lengthOr (spec.writing spec.draftBytes
+    ensures length { λ r. ⌜ r .length ≡ givenOr 0 (spec.writing spec.draftBytes
         (spec.front (now (genesis .entry)) (clock .0) (now (held .entry)) length pool controller («slot_signature» .bytes))
         (now (out .entry)) 0) ⌝ }
     ensures out { λ _. ⌜ now (out .exit) ≡ spec.written spec.draftBytes
@@ -115,7 +114,7 @@ pub extern "C" fn ledger_block_text(
     ensures place { λ r. ⌜ r .place ≡ placeOf (spec.writing spec.textBytes
         (spec.front (now (genesis .entry)) (clock .0) (now (held .entry)) length pool controller («slot_signature» .bytes))
         (now (out .entry)) 0) ⌝ }
-    ensures length { λ r. ⌜ r .length ≡ lengthOr (spec.writing spec.textBytes
+    ensures length { λ r. ⌜ r .length ≡ givenOr 0 (spec.writing spec.textBytes
         (spec.front (now (genesis .entry)) (clock .0) (now (held .entry)) length pool controller («slot_signature» .bytes))
         (now (out .entry)) 0) ⌝ }
     ensures out { λ _. ⌜ now (out .exit) ≡ spec.written spec.textBytes
@@ -158,7 +157,7 @@ pub extern "C" fn ledger_append(
     ensures place { λ r. ⌜ r .place ≡ placeOf (spec.writing (spec.appendBytes («block_signature» .bytes))
         (spec.front (now (genesis .entry)) (clock .0) (now (held .entry)) length pool controller («slot_signature» .bytes))
         (now (held .entry)) length) ⌝ }
-    ensures length { λ r. ⌜ r .length ≡ lengthOr (spec.writing (spec.appendBytes («block_signature» .bytes))
+    ensures length { λ r. ⌜ r .length ≡ givenOr 0 (spec.writing (spec.appendBytes («block_signature» .bytes))
         (spec.front (now (genesis .entry)) (clock .0) (now (held .entry)) length pool controller («slot_signature» .bytes))
         (now (held .entry)) length) ⌝ }
     ensures held { λ _. ⌜ now (held .exit) ≡ spec.written (spec.appendBytes («block_signature» .bytes))

@@ -5,10 +5,9 @@ use genesis::KeyPlace;
 use order::Slot;
 use refusal::GENESIS;
 ghost use mathlib.Core.Path.{_≡_};
-ghost use Rattle.laws.specs.Told.{numberOf, placeOf};
+ghost use Rattle.laws.specs.Told.{givenOr, numberOf, placeOf};
 ghost use Rattle.genesis.specs.Genesis as spec;
 ghost use Rattle.genesis.specs.Answers.{tableOf};
-ghost use Rattle.ledger.specs.Answers.{givenOr0};
 
 // The table is all zeros where it was refused.
 #[repr(C)]
@@ -50,7 +49,7 @@ pub extern "C" fn ledger_read_genesis(bytes: &[u8]) -> GenesisAnswer
 pub extern "C" fn ledger_find_key(bytes: &[u8], controller: u32) -> KeyAnswer
     ensures refusal { λ r. ⌜ r .refusal ≡ numberOf (spec.keyAt (now (bytes .entry)) controller) ⌝ }
     ensures place { λ r. ⌜ r .place ≡ placeOf (spec.keyAt (now (bytes .entry)) controller) ⌝ }
-    ensures at { λ r. ⌜ r .at ≡ givenOr0 (spec.keyAt (now (bytes .entry)) controller) ⌝ }
+    ensures at { λ r. ⌜ r .at ≡ givenOr 0 (spec.keyAt (now (bytes .entry)) controller) ⌝ }
 {
     match genesis::find_key(bytes, controller) {
         KeyPlace::At(at) => KeyAnswer {

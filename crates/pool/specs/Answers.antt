@@ -1,7 +1,7 @@
 -- What the answers of this crate tell.
 -- Assumes nothing.
 use lib.ListN.{length}
-use Rattle.laws.specs.Told.{Told, gives, refuses}
+use Rattle.laws.specs.Told.{Told, givenOr}
 use Rattle.laws.specs.Tabulate.{tailed}
 use Rattle.chain.specs.Answers.{toldAnswer}
 use Rattle.pool.specs.Pool.{Taking, room, noEntry}
@@ -14,8 +14,7 @@ toldOffered r = toldAnswer (r .pool) (r .answer)
 
 -- a refusal leaves the pool as it came
 abbrev pub poolOr : Pool → Told Pool → Pool
-poolOr before (gives p) = p
-poolOr before (refuses number place) = before
+poolOr before t = givenOr before t
 
 -- orders that were taken, in a list of 64 with zeros behind them
 abbrev pub takenOf : Taking → Taken

@@ -1,7 +1,7 @@
 -- What the answer of this crate tells.
 -- Assumes nothing.
 use lib.ListN.{replicate}
-use Rattle.laws.specs.Told.{Told, gives, refuses}
+use Rattle.laws.specs.Told.{Told, givenOr}
 use Rattle.chain.specs.Answers.{toldAnswer}
 use Rattle.report.specs.Report.{Report}
 use Rattle.report.specs.declared.Reported.{Reported}
@@ -17,5 +17,4 @@ abbrev pub noValues : Report
 noValues = record { held = 0; settled = 0; length = 0; releases = replicate 64 0 }
 
 abbrev pub valuesOr : Told Report → Report
-valuesOr (gives r) = r
-valuesOr (refuses number place) = noValues
+valuesOr t = givenOr noValues t

@@ -3,7 +3,7 @@
 use mathlib.Core.Path.{sym, _∙_, ap}
 use borrow.Author.Needs.{needs}
 use Rattle.adopt.specs.Adopt.{accepted}
-use Rattle.adopt.specs.Answers.{countOr}
+use Rattle.laws.specs.Told.{givenOr}
 use Rattle.adopt.proofs.judge.Statement.{statement}
 use Rattle.adopt.proofs.judge.Tie as tie
 
@@ -32,7 +32,7 @@ returns-2 : tie.Need-returns-2
 unfolding accepted
 returns-2 c =
     let told = sym (rw (c .before .enum-told .given .1) at (c .before .before .before .before .before .hold .ensures .0)) in
-    (c .against .ensures .0 ∙ rw told, c .against .ensures .1 ∙ ap countOr (c .against .ensures .0) ∙ rw told)
+    (c .against .ensures .0 ∙ rw told, c .against .ensures .1 ∙ ap (givenOr 0) (c .against .ensures .0) ∙ rw told)
 
 pub judge-spec : {M : Type 1} → statement M
 judge-spec =

@@ -2,8 +2,7 @@
 -- Assumes nothing.
 use mathlib.Core.Path.{ap}
 use borrow.Author.Needs.{needs}
-use Rattle.laws.specs.Told.{numberOf, placeOf}
-use Rattle.ledger.specs.Answers.{givenOr0}
+use Rattle.laws.specs.Told.{givenOr, numberOf, placeOf}
 use Rattle.ledger.proofs.tables.ledger_find_key.Statement.{statement}
 use Rattle.ledger.proofs.tables.ledger_find_key.Tie as tie
 
@@ -19,12 +18,12 @@ enum-known-number c = search needs
 returns : tie.Need-returns
 returns c =
     let told = rw (c .before .«at» .given .1) at (c .before .before .before .find-key .ensures) in
-    (ap numberOf told, (ap placeOf told, ap givenOr0 told))
+    (ap numberOf told, (ap placeOf told, ap (givenOr 0) told))
 
 returns-2 : tie.Need-returns-2
 returns-2 c =
     let told = rw (c .before .number .given .1) at (c .before .before .before .find-key .ensures) in
-    (ap numberOf told, (ap placeOf told, ap givenOr0 told))
+    (ap numberOf told, (ap placeOf told, ap (givenOr 0) told))
 
 pub ledger-find-key-spec : {M : Type 1} → statement M
 ledger-find-key-spec =
