@@ -6,13 +6,14 @@ use mathlib.Core.Bool.{Bool, true, false}
 use mathlib.Core.List.{List, [], _∷_}
 use native.Mathlib.Omega.{arith}
 use lib.Dec.{leb, lit<}
-use lib.ListN.{length, getD, replicate, length-replicate, length-append}
+use lib.ListN.{length, getD, length-replicate, length-append}
 use borrow.Author.Tests.{lt-ltb}
 use Rattle.laws.specs.Pick.{pick}
 use Rattle.laws.specs.Told.{Told, gives, then}
 use Rattle.laws.specs.Every.{within}
-use Rattle.laws.specs.Format.{Bytes, Each}
+use Rattle.laws.specs.Format.{Each}
 use Rattle.laws.proofs.Every.{same-refl, within-here}
+use Rattle.laws.proofs.Bytes.{bytes-filled}
 use Rattle.laws.proofs.Each.{each-weaker, each-append}
 use Rattle.order.specs.Order.{applied}
 use Rattle.order.specs.declared.Order.{Order}
@@ -26,18 +27,13 @@ use Rattle.runs.proofs.Nodes.{opening}
 use Rattle.runs.proofs.Issuing.{Signature}
 use Rattle.forked.specs.Forked.{genesis, table, signature, seal, block, boot, carried, link, next, other, chain, given}
 
-pub filled : (n a : ℕ) → a < 256 → Bytes (replicate n a)
-filled zero a h i = lit< tt
-filled (suc n) a h zero = h
-filled (suc n) a h (suc i) = filled n a h i
-
 pub signed : Signature signature
 unfolding signature
-signed = (length-replicate {A = ℕ} 64 1, filled 64 1 (lit< tt))
+signed = (length-replicate {A = ℕ} 64 1, bytes-filled 64 1 (lit< tt))
 
 pub sealed : Signature seal
 unfolding seal
-sealed = (length-replicate {A = ℕ} 64 2, filled 64 2 (lit< tt))
+sealed = (length-replicate {A = ℕ} 64 2, bytes-filled 64 2 (lit< tt))
 
 -- ---- a block fits
 digest : (k : ℕ) → Digest (link k)

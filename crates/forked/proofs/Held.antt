@@ -11,6 +11,7 @@ use borrow.Author.Tests.{lt-ltb, eq-eqb, eqb-true, eqb-false, ne-eqb}
 use Rattle.laws.specs.Pick.{pick}
 use Rattle.laws.specs.Told.{gives}
 use Rattle.laws.specs.Format.{Bytes}
+use Rattle.laws.proofs.Bytes.{bytes-filled}
 use Rattle.laws.proofs.Every.{within-here}
 use Rattle.laws.proofs.Told.{gives-same}
 use Rattle.number.specs.Number.{numberAt, readGroups}
@@ -30,7 +31,7 @@ use Rattle.runs.proofs.Nodes.{opening, Keeps, keeps-later, From, stayed, replac
 use Rattle.runs.proofs.Pools.{Pooled, each-zeros, pooled-none}
 use Rattle.runs.proofs.Issuing as issuing
 use Rattle.forked.specs.Forked.{genesis, table, signature, seal, link, next, chain, given, verdicts, buffer, run}
-use Rattle.forked.proofs.Blocks.{filled, signed, sealed, start, stands, Good, given-good}
+use Rattle.forked.proofs.Blocks.{signed, sealed, start, stands, Good, given-good}
 
 pub reads : genesisOf genesis ≡ gives table
 unfolding genesisOf numberAt readGroups genesis
@@ -42,7 +43,7 @@ full = omega (arith, length-replicate {A = ℕ} longest 0)
 
 pub buffer-bytes : Bytes buffer
 unfolding buffer
-buffer-bytes = filled longest 0 (omega arith)
+buffer-bytes = bytes-filled longest 0 (omega arith)
 
 pub three : (i : ℕ) → i < 256 → getD verdicts i 0 ≡ 3
 unfolding verdicts

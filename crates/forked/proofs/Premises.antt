@@ -15,29 +15,13 @@ use Rattle.chain.specs.Blocks.{chainBytes}
 use Rattle.chain.proofs.Theorems.{what-is-written-of-blocks-is-bytes, bytes-at-the-front-are-blocks-at-the-front}
 use Rattle.agreement.specs.Core.{howMany}
 use Rattle.pool.specs.Pool.{room}
+use Rattle.runs.proofs.Among.{among-each, nowhere, the-only}
 use Rattle.runs.proofs.Pools.{each-zeros}
 use Rattle.runs.specs.Runs.{Event, delivery, offer, correct, afterSlot, holds, issued, Among, Encounter, in-delivery, as-held, as-issued, InRun, OfRun, Typed, LastOf, Premises}
 use Rattle.forked.specs.Forked.{table, next, other, chain, given, verdicts, events, run}
 use Rattle.forked.proofs.Blocks.{signed, sealed, Named, in-turn, forked, Good, chain-good, given-good}
 use Rattle.forked.proofs.Held.{reads, full, buffer-bytes, three, held-in-slot, issued-in-slot}
 use Rattle.forked.proofs.Different.{one-digest-one-block, not-the-genesis}
-
--- ---- places in a list
-module _ {A : Type 0} (a : A) where
-  nowhere : Among a [] → ⊥
-  nowhere (before, after, e) = omega (arith, ap length e, length-append before (a ∷ after))
-
-  headOr : List A → A
-  headOr [] = a
-  headOr (b ∷ l) = b
-
-  the-only : (b : A) → Among a (b ∷ []) → a ≡ b
-  unfolding headOr
-  the-only b ([], after, e) = sym (ap headOr e)
-  the-only b (c ∷ before, after, e) = absurd (omega (arith, ap length e, length-append before (a ∷ after)))
-
-  at-it : (P : A → Type 0) (l : List A) → Each P l → Among a l → P a
-  at-it P l each (before, after, e) = each-parts P before (a ∷ after) (subst (Each P) e each) .1 .0
 
 -- ---- what is delivered
 bytesOf : Event → List ℕ
@@ -138,7 +122,7 @@ named p of-run =
     let it = known (of-run .controller) (of-run .slot) (of-run .chain) (of-run .is-correct) (of-run .in-run) (of-run .encounter) in
     let (others, whole) = bytes-at-the-front-are-blocks-at-the-front (it .blocks) (of-run .blocks) (of-run .rest) (it .fit) (of-run .fit)
     (sym (it .are) ∙ of-run .are) in
-    at-it p Named (of-run .blocks) (each-parts Named (of-run .blocks) others (subst (Each Named) whole (it .named)) .0) (of-run .among)
+    among-each Named (of-run .blocks) p (each-parts Named (of-run .blocks) others (subst (Each Named) whole (it .named)) .0) (of-run .among)
 
 -- the one that is stamped with a correct controller's slot is the one that it issued
 the-issued-one : (p : Parts) → Named p → (slot : ℕ) → correct run (turn table slot) → slot ≤ 6 → p .slot ≡ slot → LastOf (issued run slot) p

@@ -15,6 +15,7 @@ use Rattle.laws.specs.Every.{both, same, within, every}
 use Rattle.laws.specs.Format.{Bytes, Each}
 use Rattle.laws.specs.Tabulate.{tabulate}
 use Rattle.laws.proofs.Told.{gives-same, then-gives, unless-gives}
+use Rattle.laws.proofs.Bytes.{bytes-filled}
 use Rattle.laws.proofs.Each.{each-append, each-take, each-those}
 use Rattle.laws.proofs.Every.{same-refl, both-true, within-here}
 use Rattle.laws.proofs.Tabulate.{length-tabulate}
@@ -46,11 +47,6 @@ tabulated-bytes zero f h i = lit< tt
 tabulated-bytes (suc n) f h zero = h 0
 tabulated-bytes (suc n) f h (suc i) = tabulated-bytes n (λ j. f (suc j)) (λ j. h (suc j)) i
 
-zeros-bytes : (n : ℕ) → Bytes (replicate n 0)
-zeros-bytes zero i = lit< tt
-zeros-bytes (suc n) zero = lit< tt
-zeros-bytes (suc n) (suc i) = zeros-bytes n i
-
 byte-small : (h : List ℕ) (i : ℕ) → digestByte h i < 256
 byte-small h i = let n : ℕ = getD h (i / 4) 0 / 256 ^ (3 - i % 4) in small n
   where
@@ -68,7 +64,7 @@ link-digest m = by-length (leb (length m) longest)
   where
     by-length : (β : Bool) → Digest (pick β (sha256 m) (replicate 32 0))
     by-length true = sha256-digest m
-    by-length false = record { size = length-replicate {A = ℕ} 32 0; bytes = zeros-bytes 32 }
+    by-length false = record { size = length-replicate {A = ℕ} 32 0; bytes = bytes-filled 32 0 (lit< tt) }
 
 -- ---- the link that a standing carries on
 follows-digest : (s : Standing) (p : Parts) (after : Standing) → follows s p ≡ gives after → Digest (after .link)

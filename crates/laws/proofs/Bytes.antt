@@ -5,7 +5,7 @@ use mathlib.Core.List.{List, [], _∷_, _++_}
 use Prim.Native.Nat.{ℕ, zero, suc, _+_, _<_, _≤_}
 use native.Mathlib.Omega.{arith}
 use lib.Dec.{lit<}
-use lib.ListN.{length, take, drop, getD, length-drop}
+use lib.ListN.{length, take, drop, getD, replicate, length-drop}
 use lib.Seq.{getD-take, getD-drop, length-take-le}
 use Rattle.laws.specs.Bytes.{part}
 use Rattle.laws.specs.Format.{Bytes}
@@ -28,6 +28,11 @@ bytes-take (suc n) (x ∷ xs) hs = bytes-cons x (take n xs) (hs 0) (bytes-take n
 
 pub bytes-drop : (n : ℕ) (xs : List ℕ) → Bytes xs → Bytes (drop n xs)
 bytes-drop n xs hs i = rw (getD-drop n xs i 0) (hs (n + i))
+
+pub bytes-filled : (n value : ℕ) → value < 256 → Bytes (replicate n value)
+bytes-filled zero value small i = lit< tt
+bytes-filled (suc n) value small zero = small
+bytes-filled (suc n) value small (suc i) = bytes-filled n value small i
 
 pub part-length : (s : List ℕ) (at size : ℕ) → at + size ≤ length s → length (part s at size) ≡ size
 part-length s at size h = length-take-le size (drop at s) (rw length-drop (omega arith))

@@ -1,12 +1,15 @@
 -- What holds of each value of a list: of its parts, and of lists made of it. And that a list is empty or has a last value.
 -- Assumes nothing.
 use Prim.Native.Nat.{ℕ, zero, suc}
+use mathlib.Core.Path.{_≡_, refl}
 use mathlib.Core.Bool.{Bool, true, false}
 use mathlib.Core.List.{List, [], _∷_, _++_}
 use lib.ListN.{take}
 use Rattle.laws.specs.Pick.{pick}
+use Rattle.laws.specs.Every.{every}
 use Rattle.laws.specs.Fold.{those}
 use Rattle.laws.specs.Format.{Each}
+use Rattle.laws.proofs.Every.{both-true}
 
 module _ {A : Type 0} where
   pub each-weaker : {P Q : A → Type 0} → ((a : A) → P a → Q a) → (l : List A) → Each P l → Each Q l
@@ -46,3 +49,13 @@ module _ {A : Type 0} where
       more : (a : A) (l : List A) → Ends l → Ends (a ∷ l)
       more a l nothing = last [] a
       more a l (last m b) = last (a ∷ m) b
+
+-- a test that passes at each value
+module _ {A : Type 0} (test : A → Bool) where
+  pub every-each : (l : List A) → every test l ≡ true → Each (λ a. test a ≡ true) l
+  every-each [] e = tt
+  every-each (a ∷ l) e = let (here, rest) = both-true (test a) (every test l) e in (here, every-each l rest)
+
+  pub each-every : (l : List A) → Each (λ a. test a ≡ true) l → every test l ≡ true
+  each-every [] each = refl
+  each-every (a ∷ l) (here, rest) = rw here (each-every l rest)

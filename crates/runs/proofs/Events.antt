@@ -23,18 +23,10 @@ use Rattle.chain.specs.declared.Summary.{Summary}
 use Rattle.chain.proofs.Accepted.{admits-front}
 use Rattle.chain.proofs.Theorems.{blocks-that-follow-and-are-admitted-are-accepted, the-bytes-tell-the-blocks}
 use Rattle.runs.specs.Runs.{adopts, AdoptedOrEqualled, Node, Event, delivery, offer, afterEvent, Run, correct, Among, in-delivery, InRun, OfRun, Premises}
+use Rattle.runs.proofs.Among.{each-among}
 use Rattle.runs.proofs.Nodes.{opening, Keeps, From, stayed, replaced, Met, met-delivery, good-answer}
 use Rattle.runs.proofs.Pools.{Pooled, pooled-offer}
 use Rattle.runs.proofs.Valid.{Valid}
-
--- ---- places in a list
-module _ {A : Type 0} (P : A → Type 0) where
-  pub each-among : (l : List A) → ((a : A) → Among a l → P a) → Each P l
-  each-among l all = from [] l refl
-    where
-      from : (before rest : List A) → l ≡ before ++ rest → Each P rest
-      from before [] e = tt
-      from before (a ∷ rest) e = (all a (before, rest, e), from (before ++ (a ∷ [])) rest (e ∙ sym (append-assoc before (a ∷ []) rest)))
 
 -- a chain up to one of its blocks
 module _ (blocks before after : List Parts) (p : Parts) (e : blocks ≡ before ++ p ∷ after) where

@@ -1,3 +1,4 @@
+pub mod Among
 pub mod Nodes
 pub mod Pools
 pub mod Issuing

@@ -2,7 +2,7 @@
 -- Assumes nothing.
 use Prim.Native.Nat.{ℕ, zero, suc, _+_, _-_, _≤_, zero-le}
 use mathlib.Core.Path.{_≡_, refl, sym, ap, _∙_, subst}
-use mathlib.Core.Bool.{Bool, true}
+use mathlib.Core.Bool.{true}
 use mathlib.Core.List.{List, [], _∷_, _++_}
 use native.Mathlib.Omega.{arith}
 use lib.Dec.{ltb, leb}
@@ -13,7 +13,7 @@ use Rattle.laws.specs.Every.{within, every}
 use Rattle.laws.specs.Format.{Each}
 use Rattle.laws.proofs.Told.{gives-same, then-gives, unless-gives}
 use Rattle.laws.proofs.Every.{both-true, within-true, within-here}
-use Rattle.laws.proofs.Each.{each-weaker, each-append, each-take, each-those}
+use Rattle.laws.proofs.Each.{every-each, each-every, each-weaker, each-append, each-take, each-those}
 use Rattle.order.specs.Order.{displays, valid}
 use Rattle.order.specs.declared.Order.{Order}
 use Rattle.chain.specs.Chain.{opened, heldChain, holding}
@@ -26,15 +26,6 @@ use Rattle.pool.specs.declared.Pool.{Pool}
 use Rattle.pool.proofs.Joining.{entries-of}
 use Rattle.issue.proofs.Appending.{Writable}
 use Rattle.issue.proofs.Appended.{opened-link}
-
-module _ {A : Type 0} (test : A → Bool) where
-  pub every-each : (l : List A) → every test l ≡ true → Each (λ a. test a ≡ true) l
-  every-each [] e = tt
-  every-each (a ∷ l) e = let (here, rest) = both-true (test a) (every test l) e in (here, every-each l rest)
-
-  pub each-every : (l : List A) → Each (λ a. test a ≡ true) l → every test l ≡ true
-  each-every [] each = refl
-  each-every (a ∷ l) (here, rest) = rw here (each-every l rest)
 
 abbrev pub Written : Entry → Type 0
 Written e = Writable (e .order)
