@@ -150,7 +150,7 @@ module _ (r : Run) where
           unfolding delivery-fine
           delivery-long = met .long others (good .0) is (good .1)
 
-          pub delivery-answer : AdoptedOrEqualled bytes (adopts (r .genesis) slot s bytes verdicts)
+          pub delivery-answer : AdoptedOrEqualled bytes (length others) (adopts (r .genesis) slot s bytes verdicts)
           delivery-answer =
               good-answer (r .genesis) (r .table) (premises .reads) slot (in-run .0) high s blocks bytes verdicts
               (premises .typed i is-correct .deliveries slot in-run bytes verdicts among) (f .keeps) others (good .0) is (good .1)

@@ -186,20 +186,22 @@ module _ (genesis : List ℕ) (table : Genesis) where
 
         -- a good chain is adopted if it has more blocks than are held, else it is 11
         pub good-answer : (others : List Parts) (d : Summary) → bytes ≡ chainBytes others → Accepted o (delivered verdicts) others d
-            → AdoptedOrEqualled bytes (adopts genesis clock s bytes verdicts)
+            → AdoptedOrEqualled bytes (length others) (adopts genesis clock s bytes verdicts)
         good-answer others d is a =
             let few : 0 + length bytes ≤ length (s .buffer) = omega (arith, k .room, ap length is, at-most-64256-bytes o (delivered verdicts) others d a) in
             let checks = ap (λ (l : List ℕ). deliveredChain o l verdicts) is ∙ accepted-blocks-may-be-delivered o d verdicts others a in
-            let answer = judged-is ∙ ap (longer (h .summary .whole .count .0)) checks in
-            subst (λ (t : Told ℕ). AdoptedOrEqualled bytes (adopted t (s .buffer) bytes)) (sym answer)
-            (by-test (sym (with-room (s .buffer) 0 bytes few .0)) (ltb (h .summary .whole .count .0) (d .whole .count .0)) (d .whole .count .0))
+            let count = the-count-is-the-number-of-blocks o (delivered verdicts) others d a in
+            let answer = judged-is ∙ ap (longer (h .summary .whole .count .0)) checks
+            ∙ ap (λ (n : ℕ). unless (ltb (h .summary .whole .count .0) n) 11 0 (gives n)) count in
+            subst (λ (t : Told ℕ). AdoptedOrEqualled bytes (length others) (adopted t (s .buffer) bytes)) (sym answer)
+            (by-test (sym (with-room (s .buffer) 0 bytes few .0)) (ltb (h .summary .whole .count .0) (length others)) (length others))
           where
             by-test : placed (s .buffer) 0 bytes ≡ gives (0 + length bytes) → (β : Bool) (count : ℕ)
-                → AdoptedOrEqualled bytes (adopted (unless β 11 0 (gives count)) (s .buffer) bytes)
+                → AdoptedOrEqualled bytes count (adopted (unless β 11 0 (gives count)) (s .buffer) bytes)
             by-test fits true count =
-                subst (AdoptedOrEqualled bytes)
+                subst (AdoptedOrEqualled bytes count)
                 (sym (ap (λ (t : Told ℕ). then t λ size. gives (size, count)) (fits ∙ ap gives (zero-add (length bytes)))))
-                (adopted-now count)
+                adopted-now
             by-test fits false count = equalled
 
         pub met-delivery : Met clock (afterEvent genesis clock s (delivery bytes verdicts)) blocks bytes verdicts

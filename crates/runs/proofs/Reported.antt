@@ -3,10 +3,11 @@
 use Prim.Native.Nat.{ℕ, suc, _+_, _-_, _≤_}
 use mathlib.Core.Path.{_≡_, refl, sym, ap, _∙_, subst}
 use mathlib.Core.Bool.{true, not}
-use mathlib.Core.List.{List, _++_}
+use mathlib.Core.List.{List, _∷_, _++_}
 use native.Mathlib.Omega.{arith}
 use lib.ListN.{length, take, getD}
 use Rattle.laws.specs.Told.{gives}
+use Rattle.laws.specs.Fold.{folded}
 use Rattle.laws.proofs.Told.{gives-same, then-gives}
 use Rattle.laws.proofs.Taken.{joined-append}
 use Rattle.genesis.specs.Genesis.{turn, depth}
@@ -18,11 +19,11 @@ use Rattle.chain.proofs.Theorems.{the-bytes-tell-the-blocks, blocks-follow-part
 use Rattle.report.specs.Report.{Report}
 use Rattle.agreement.specs.Core.{howMany, Windows, Begins, settled}
 use Rattle.agreement.proofs.Theorems as argument
-use Rattle.runs.specs.Runs.{appends, Run, correct, inSlot, holds, reports, InRun, Premises}
+use Rattle.runs.specs.Runs.{Event, delivery, adopts, afterEvent, appends, Run, correct, afterSlot, inSlot, holds, reports, issued, InRun, Premises, AdoptedOrEqualled}
 use Rattle.runs.proofs.Nodes.{opening}
 use Rattle.runs.proofs.Issuing.{never-refused}
-use Rattle.runs.proofs.Valid.{setting}
-use Rattle.runs.proofs.Slots.{issuer, one-more, delivered-at}
+use Rattle.runs.proofs.Valid.{blocksIn, setting}
+use Rattle.runs.proofs.Slots.{issuer, one-more, delivered-at, answered-at}
 use Rattle.runs.proofs.Agreed.{laws, turns, Reporter, given, reporter}
 
 bytes-begin : (xs ys : List Parts) → Begins xs ys → Begins (chainBytes xs) (chainBytes ys)
@@ -102,20 +103,31 @@ module _ (r : Run) (premises : Premises r) where
       let at = delivered-at r premises i i-correct j in-run in
       (_, never-refused (r .genesis) (r .table) j (inSlot r i j) (at .blocks) (issuer r premises i i-correct j in-run is-turn at))
 
+  -- what is issued in a correct turn has one block more than its controller held
+  issued-count : (j : ℕ) → InRun r j → correct r (turn (r .table) j) → (a : Report) → reports r (turn (r .table) j) j ≡ gives a
+      → length (blocksIn (issued r j)) ≡ a .held + 1
+  issued-count j in-run good a says =
+      let t = turn (r .table) j in
+      let x = reporter r premises t good j in-run a says in
+      let at = delivered-at r premises t good j in-run in
+      let same = the-bytes-tell-the-blocks (x .blocks) (at .blocks) (x .viable .passes .fits) (at .fine .keeps .fits) (sym (x .are) ∙ at .fine .keeps .are) in
+      omega (arith, x .counts, ap length same, one-more r premises t good j in-run refl at)
+
+  pub taken : (i : ℕ) → correct r i → (j : ℕ) → InRun r j → InRun r (suc j) → correct r (turn (r .table) j)
+      → (a : Report) → reports r (turn (r .table) j) j ≡ gives a
+      → (before after : List Event) (verdicts : List ℕ) → r .events i (suc j) ≡ before ++ delivery (issued r j) verdicts ∷ after
+      → AdoptedOrEqualled (issued r j) (a .held + 1)
+      (adopts (r .genesis) (suc j) (folded (afterEvent (r .genesis) (suc j)) (afterSlot r i j) before) (issued r j) verdicts)
+  taken i i-correct j in-run in-run′ good a says before after verdicts e =
+      subst
+      (λ (n : ℕ). AdoptedOrEqualled (issued r j) n
+      (adopts (r .genesis) (suc j) (folded (afterEvent (r .genesis) (suc j)) (afterSlot r i j) before) (issued r j) verdicts))
+      (issued-count j in-run good a says)
+      (answered-at r premises i i-correct j in-run in-run′ good before after verdicts e)
+
   pub adds : (i : ℕ) → correct r i → (j : ℕ) → InRun r j → InRun r (suc j) → correct r (turn (r .table) j)
       → (a b : Report) → reports r (turn (r .table) j) j ≡ gives a → reports r i (suc j) ≡ gives b → a .held + 1 ≤ b .held
   adds i i-correct j in-run in-run′ good a b says says′ =
-      let t = turn (r .table) j in
-      let x = reporter r premises t good j in-run a says in
       let y = reporter r premises i i-correct (suc j) in-run′ b says′ in
-      let at = delivered-at r premises t good j in-run in
-      let same = the-bytes-tell-the-blocks (x .blocks) (at .blocks) (x .viable .passes .fits) (at .fine .keeps .fits) (sym (x .are) ∙ at .fine .keeps .are) in
-      let is-good : not (r .faulty t) ≡ true = ap not (good .2) in
-      omega (
-        arith,
-        x .counts,
-        y .counts,
-        ap length same,
-        y .viable .long j is-good (in-run .0) (omega arith),
-        one-more r premises t good j in-run refl at,
-      )
+      let is-good : not (r .faulty (turn (r .table) j)) ≡ true = ap not (good .2) in
+      omega (arith, y .counts, y .viable .long j is-good (in-run .0) (omega arith), issued-count j in-run good a says)

@@ -108,13 +108,15 @@ module _ (r : Run) (premises : Premises r) where
 
     -- and it is adopted, or as many blocks are held
     pub answered : Issued slot → (b a : List Event) (verdicts : List ℕ) → r .events i (suc slot) ≡ b ++ delivery (issued r slot) verdicts ∷ a
-        → AdoptedOrEqualled (issued r slot) (adopts (r .genesis) (suc slot) (folded (afterEvent (r .genesis) (suc slot)) (afterSlot r i slot) b) (issued r slot) verdicts)
+        → AdoptedOrEqualled (issued r slot) (length (blocksIn (issued r slot)))
+        (adopts (r .genesis) (suc slot) (folded (afterEvent (r .genesis) (suc slot)) (afterSlot r i slot) b) (issued r slot) verdicts)
     answered it b a verdicts e =
         let chain = it .before ++ (it .block ∷ []) in
         let s = folded (afterEvent (r .genesis) (suc slot)) (afterSlot r i slot) b in
         let g = events-fine r premises i is-correct (suc slot) in-run [] b (delivery (issued r slot) verdicts ∷ a) e (afterSlot r i slot) (before .blocks) begins in
-        delivery-answer r premises i is-correct (suc slot) in-run s (g .more) (g .fine) (issued r slot) verdicts (b, a, e) chain (it .is) (it .valid)
-        (subst (λ (n : ℕ). Below n chain) (omega arith) (it .below))
+        subst (λ (n : ℕ). AdoptedOrEqualled (issued r slot) n (adopts (r .genesis) (suc slot) s (issued r slot) verdicts)) (sym (ap length (issued-blocks slot it)))
+        (delivery-answer r premises i is-correct (suc slot) in-run s (g .more) (g .fine) (issued r slot) verdicts (b, a, e) chain (it .is) (it .valid)
+        (subst (λ (n : ℕ). Below n chain) (omega arith) (it .below)))
 
     long-now : (1 ≤ slot → correct r (turn (r .table) slot) → Issued slot) → Long (setting r) (suc slot) (whole-slot .more)
     long-now it j good low below =
@@ -332,7 +334,8 @@ module _ (r : Run) (premises : Premises r) where
 
   pub answered-at : (i : ℕ) → correct r i → (slot : ℕ) → InRun r slot → InRun r (suc slot) → correct r (turn (r .table) slot)
       → (b a : List Event) (verdicts : List ℕ) → r .events i (suc slot) ≡ b ++ delivery (issued r slot) verdicts ∷ a
-      → AdoptedOrEqualled (issued r slot) (adopts (r .genesis) (suc slot) (folded (afterEvent (r .genesis) (suc slot)) (afterSlot r i slot) b) (issued r slot) verdicts)
+      → AdoptedOrEqualled (issued r slot) (length (blocksIn (issued r slot)))
+      (adopts (r .genesis) (suc slot) (folded (afterEvent (r .genesis) (suc slot)) (afterSlot r i slot) b) (issued r slot) verdicts)
   answered-at i is-correct slot (low, high) in-run good =
       let so-far = upto slot high in
       answered i is-correct slot in-run (so-far .all i is-correct) (so-far .issues-well low good)

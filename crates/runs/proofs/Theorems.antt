@@ -13,7 +13,6 @@ use Rattle.chain.specs.Blocks.{NoneFell}
 use Rattle.report.specs.Report.{Report}
 use Rattle.agreement.specs.Core.{howMany, Begins}
 use Rattle.runs.specs.Runs.{Event, delivery, afterEvent, adopts, AdoptedOrEqualled, appends, Run, correct, afterSlot, inSlot, holds, reports, issued, InRun, Premises}
-use Rattle.runs.proofs.Slots.{answered-at}
 use Rattle.runs.proofs.Agreed.{given}
 use Rattle.runs.proofs.Reported as reported
 
@@ -54,9 +53,11 @@ module _ (r : Run) (premises : Premises r) where
 
   -- and where the issued chain is delivered it is adopted, or as many blocks are held already
   pub an-issued-chain-is-adopted-or-equalled : (i : ℕ) → correct r i → (j : ℕ) → InRun r j → InRun r (suc j) → correct r (turn (r .table) j)
+      → (a : Report) → reports r (turn (r .table) j) j ≡ gives a
       → (before after : List Event) (verdicts : List ℕ) → r .events i (suc j) ≡ before ++ delivery (issued r j) verdicts ∷ after
-      → AdoptedOrEqualled (issued r j) (adopts (r .genesis) (suc j) (folded (afterEvent (r .genesis) (suc j)) (afterSlot r i j) before) (issued r j) verdicts)
-  an-issued-chain-is-adopted-or-equalled = answered-at r premises
+      → AdoptedOrEqualled (issued r j) (a .held + 1)
+      (adopts (r .genesis) (suc j) (folded (afterEvent (r .genesis) (suc j)) (afterSlot r i j) before) (issued r j) verdicts)
+  an-issued-chain-is-adopted-or-equalled = reported.taken r premises
 
   -- after the deliveries of the next slot each correct controller holds at least one block more than the issuer held
   pub each-correct-turn-adds-a-block : (i : ℕ) → correct r i → (j : ℕ) → InRun r j → InRun r (suc j) → correct r (turn (r .table) j)

@@ -203,7 +203,7 @@ pub record Premises (r : Run) : Type 0 where
   pub not-the-genesis : (p : Parts) → OfRun r p → linkOf (blockBytes p) ≡ linkOf (r .genesis) → ⊥
 
 -- ---- what comes of a delivery
--- the delivered chain is what is held then, or as many blocks are held already: 11
-pub data AdoptedOrEqualled (bytes : List ℕ) : Told (ℕ × ℕ) → Type 0 where
-  adopted-now : (count : ℕ) → AdoptedOrEqualled bytes (gives (length bytes, count))
-  equalled : AdoptedOrEqualled bytes (refuses 11 0)
+-- the delivered chain, of so many blocks, is what is held then, or as many are held already: 11
+pub data AdoptedOrEqualled (bytes : List ℕ) (count : ℕ) : Told (ℕ × ℕ) → Type 0 where
+  adopted-now : AdoptedOrEqualled bytes count (gives (length bytes, count))
+  equalled : AdoptedOrEqualled bytes count (refuses 11 0)
