@@ -9,3 +9,4 @@ pub mod Repeated
 pub mod Bytes
 pub mod Run
 pub mod Fold
+pub mod Contracts
