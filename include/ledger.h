@@ -2,12 +2,23 @@
  * The ledger library for hosts in C (C99): the calls that target/staticlib/libledger.a exports (`rt staticlib ledger`).
  *
  * Every call answers for any bytes, any length and any number. An answer begins with the refusal's number, 0 where there is none, and its
- * place: the failing block, counted from 1, or 0. Beside a refusal every other member of an answer is 0, unless it is said below, and every
- * lent buffer is as it came. Bytes past what a call writes stay.
+ * place. Only ledger_turn and ledger_depth never refuse, and answer a number alone.
  *
- * A slice is a pointer and a length in bytes. The pointer is never null, not even where the length is 0, and the bytes are readable, and
- * writable where it is not const. A buffer that a call writes shares no byte with the call's other slices. No call keeps a pointer,
- * allocates, or has a state: calls from several threads need no lock.
+ * Look at `refusal` first: the values beside a refusal mean nothing. They are zeros, but for the pool, which is as it came, and the place that a
+ * walk has reached. A refusal leaves every lent buffer as it came, and bytes past what a call writes stay.
+ *
+ * The place is the failing block, counted from 1, for 3 to 10 in a delivered chain (ledger_check, ledger_choose, ledger_adopt) and for 17 in
+ * the held one. Every other refusal has place 0, one of a single block too. The numbers that stand at a call are its refusals, in the order in
+ * which it looks for them: the first is answered.
+ *
+ * `clock` is the slot that it is now; the comments call it now.
+ *
+ * A slice is a pointer and a length in bytes. The pointer is never NULL, not even where the length is 0: then it may point to any object. The
+ * bytes are readable, and writable where it is not const. A buffer that a call writes shares no byte with the call's other slices. No call keeps
+ * a pointer, allocates, or has a state: calls from several threads need no lock.
+ *
+ * The held chain is the first `length` bytes of the buffer `held`, which has room for `held_room` bytes. The chain of no blocks is length 0 of
+ * the same buffer. A buffer of LEDGER_CHAIN_BYTES never is too short.
  */
 #ifndef LEDGER_H
 #define LEDGER_H
@@ -28,15 +39,17 @@ extern "C" {
 #define LEDGER_POOL_ROOM 64          /* the most entries of a pool */
 #define LEDGER_NUMBER_BYTES 5        /* the most bytes of a number */
 #define LEDGER_KEY_BYTES 32
+#define LEDGER_DIGEST_BYTES 32       /* the bytes of a digest */
 #define LEDGER_LINK_BYTES 32
 #define LEDGER_SIGNATURE_BYTES 64
 #define LEDGER_SLOT_TEXT_BYTES 6     /* the most bytes of a slot text */
+#define LEDGER_DRAFT_BYTES 187       /* the most bytes of a draft: a block without its last 64 */
 #define LEDGER_BLOCK_TEXT_BYTES 192  /* the most bytes of a block text: a draft behind five letters */
 #define LEDGER_GENESIS_BYTES 1315    /* the most bytes of a genesis */
 #define LEDGER_BLOCK_LEAST_BYTES 162 /* the fewest bytes of a block */
 #define LEDGER_BLOCK_BYTES 251       /* and the most */
 #define LEDGER_CHAIN_BYTES 64256     /* the most bytes of a chain */
-#define LEDGER_DIGEST_BYTES 65536    /* the most bytes that are digested */
+#define LEDGER_MESSAGE_BYTES 65536   /* the most bytes that are digested */
 #define LEDGER_GOOD_VERDICT 3        /* both signatures verify under the key whose turn the slot is */
 
 /* Refusal numbers. */
@@ -58,8 +71,9 @@ enum ledger_refusal {
     LEDGER_BAD_OFFER = 14,     /* new order not valid where it would stand */
     LEDGER_SHORT_BUFFER = 15,  /* lent output too short */
     LEDGER_TOO_LONG = 16,      /* delivered chain over 64,256 bytes, or a slice to digest over 65,536 */
-    LEDGER_BAD_HELD = 17,      /* held chain bad */
-    LEDGER_BAD_POOL = 18       /* pool bad */
+    LEDGER_BAD_HELD = 17,      /* held chain bad: longer than its buffer or than 64,256 bytes (place 0), or a block fails 3, 4, 5, 6, 9 or 10,
+                                  or its stamp is above now (the block's place). It needs no verdicts, and its last stamp may equal now */
+    LEDGER_BAD_POOL = 18       /* pool bad: count above 64, or within the count an entry with a display above 63, slot 0 or a slot above now */
 };
 
 /* A slot, or a block's stamp. Apart from a number of blocks, so that neither can be taken for the other. */
@@ -139,7 +153,7 @@ typedef struct {
 typedef struct {
     uint32_t refusal;
     uint32_t place;
-    uint8_t digest[32];
+    uint8_t digest[LEDGER_DIGEST_BYTES];
 } ledger_digest_answer;
 
 typedef struct {
@@ -185,7 +199,7 @@ typedef struct {
 typedef struct {
     uint32_t refusal;
     uint32_t place;
-    size_t length; /* the held chain's new length */
+    size_t length; /* the held chain's new length; on a refusal keep the old one */
     ledger_block_count count;
 } ledger_adopt_answer;
 
@@ -198,7 +212,7 @@ typedef struct {
 typedef struct {
     uint32_t refusal;
     uint32_t place;
-    size_t length; /* of what was written; of append: the held chain's new length */
+    size_t length; /* of what was written; of append: the held chain's new length, and on a refusal keep the old one */
 } ledger_issue_answer;
 
 typedef struct {
@@ -225,10 +239,10 @@ ledger_genesis_answer ledger_read_genesis(const uint8_t *bytes, size_t bytes_len
 /* Where a controller's key stands in genesis bytes; controllers count from 1: 1, 12. */
 ledger_key_answer ledger_find_key(const uint8_t *bytes, size_t bytes_length, uint32_t controller);
 
-/* Whose turn a slot is: a controller, or 0 where the table has none. */
+/* Whose turn a slot is: a controller, or 0 where the table has none. No refusal: any slot has a turn, and slot 0 is answered as slot 1 is. */
 uint32_t ledger_turn(ledger_genesis table, ledger_slot slot);
 
-/* How many slots a block must lie back to be settled: it is if its slot + depth < now. */
+/* How many slots a block must lie back to be settled: it is if its slot + depth < now. No refusal. */
 uint64_t ledger_depth(ledger_genesis table);
 
 /* Reads the block at a place: 3, 4, 5 in byte order. */
@@ -243,44 +257,51 @@ ledger_write_answer ledger_slot_text(uint8_t *out, size_t out_length, ledger_slo
 /* A step of a walk over a chain: the block at a place, or the end, or a refusal as for one block: 3, 4, 5. */
 ledger_step_answer ledger_walk_step(const uint8_t *chain, size_t chain_length, size_t at);
 
-/* Checks a delivered chain at slot `clock`, with a verdict byte for each block: 1, 2, 16, then its blocks one by one: 3, 4, 5 in byte order,
-   6, 7, 8, 9, 10. */
+/* Checks a delivered chain at slot now, with a verdict byte for each block: 1, 2, 16, then its blocks one by one: 3, 4, 5 in byte order,
+   6, 7, 8, 9, 10. A verdict is LEDGER_GOOD_VERDICT, or bad; a missing one is bad, and spare ones are ignored. */
 ledger_check_answer ledger_check(const uint8_t *genesis, size_t genesis_length, ledger_slot clock, const uint8_t *chain,
                                  size_t chain_length, const uint8_t *verdicts, size_t verdicts_length);
 
-/* Chooses between a held chain and a delivered one, and copies nothing: 1, 2, 17, 16, the delivered blocks, 11. */
+/* Chooses between a held chain and a delivered one, and copies nothing: 1, 2, 17, 16, the delivered blocks as in ledger_check, 11. Here `held`
+   is the held chain itself, all `held_length` bytes of it: 0 for the chain of no blocks. */
 ledger_choose_answer ledger_choose(const uint8_t *genesis, size_t genesis_length, ledger_slot clock, const uint8_t *held,
                                    size_t held_length, const uint8_t *delivered, size_t delivered_length,
                                    const uint8_t *verdicts, size_t verdicts_length);
 
-/* Puts a delivered chain in the place of the held one, which is the first `length` bytes of a buffer of `held_length`, if it has more
-   blocks: 1, 2, 17, 16, the delivered blocks, 11, 15. */
+/* Puts a delivered chain in the place of the held one if it has more blocks: 1, 2, 17, 16, the delivered blocks as in ledger_check, 11, 15.
+   On a refusal keep the old length: the held chain stays, and the answer's length is 0. */
 ledger_adopt_answer ledger_adopt(const uint8_t *genesis, size_t genesis_length, ledger_slot clock, uint8_t *held,
-                                 size_t held_length, size_t length, const uint8_t *delivered, size_t delivered_length,
+                                 size_t held_room, size_t length, const uint8_t *delivered, size_t delivered_length,
                                  const uint8_t *verdicts, size_t verdicts_length);
 
-/* Pools an order behind the entries that still count: 1, 2, 17, 18, 5, 14, 13. The held chain is the first `length` bytes of `held`. */
+/* Pools an order behind the entries that still count: 1, 2, 17, 18, 5, 14, 13. The answer's pool takes the old one's place. */
 ledger_pool_answer ledger_pool_order(const uint8_t *genesis, size_t genesis_length, ledger_slot clock, const uint8_t *held,
-                                     size_t held_length, size_t length, ledger_pool pool, ledger_order order);
+                                     size_t held_room, size_t length, ledger_pool pool, ledger_order order);
+
+/* Issuing. Same arguments, same bytes: what was signed is what is appended. So ledger_draft or ledger_block_text, and ledger_append after it,
+   must be given the same genesis, clock, held chain and `length`, pool, controller and slot signature, with no other call on the buffer or the
+   pool in between. `length` is the held chain's before the block, in all three. The pool does not change: an entry leaves it only when it no
+   longer counts, with the next order that is pooled. */
 
 /* Writes the next block without its last 64 bytes: 1, 2, 17, 18, 12, 6, 15. */
 ledger_issue_answer ledger_draft(const uint8_t *genesis, size_t genesis_length, ledger_slot clock, const uint8_t *held,
-                                 size_t held_length, size_t length, ledger_pool pool, uint32_t controller,
+                                 size_t held_room, size_t length, ledger_pool pool, uint32_t controller,
                                  ledger_signature slot_signature, uint8_t *out, size_t out_length);
 
-/* Writes the text of the next block that a host signs, and refuses as the draft does. */
+/* Writes the text of the next block that a host signs, `block` and the draft, and refuses as the draft does. */
 ledger_issue_answer ledger_block_text(const uint8_t *genesis, size_t genesis_length, ledger_slot clock, const uint8_t *held,
-                                      size_t held_length, size_t length, ledger_pool pool, uint32_t controller,
+                                      size_t held_room, size_t length, ledger_pool pool, uint32_t controller,
                                       ledger_signature slot_signature, uint8_t *out, size_t out_length);
 
-/* Writes the next block after the held chain, the first `length` bytes of a buffer of `held_length`: 1, 2, 17, 18, 12, 6, 15. */
+/* Writes the next block after the held chain: 1, 2, 17, 18, 12, 6, 15. On a refusal keep the old length: nothing was appended, and the answer's
+   length is 0. */
 ledger_issue_answer ledger_append(const uint8_t *genesis, size_t genesis_length, ledger_slot clock, uint8_t *held,
-                                  size_t held_length, size_t length, ledger_pool pool, uint32_t controller,
+                                  size_t held_room, size_t length, ledger_pool pool, uint32_t controller,
                                   ledger_signature slot_signature, ledger_signature block_signature);
 
-/* Reports on the held chain, the first `length` bytes of `held`: 1, 2, 17. */
+/* Reports on the held chain: 1, 2, 17. */
 ledger_report_answer ledger_report(const uint8_t *genesis, size_t genesis_length, ledger_slot clock, const uint8_t *held,
-                                   size_t held_length, size_t length);
+                                   size_t held_room, size_t length);
 
 #ifdef __cplusplus
 }

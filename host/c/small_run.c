@@ -76,8 +76,8 @@ static ledger_signature sign(uint32_t number, const uint8_t *text, size_t length
     ledger_digest_answer digested = ledger_digest(message, LEDGER_KEY_BYTES + length);
     accepted("digest", digested.refusal, digested.place);
     ledger_signature signature;
-    memcpy(signature.bytes, digested.digest, 32);
-    memcpy(signature.bytes + 32, digested.digest, 32);
+    memcpy(signature.bytes, digested.digest, LEDGER_DIGEST_BYTES);
+    memcpy(signature.bytes + LEDGER_DIGEST_BYTES, digested.digest, LEDGER_DIGEST_BYTES);
     return signature;
 }
 
@@ -152,7 +152,7 @@ static void offer(controller *to, ledger_slot now, uint32_t expected, uint32_t n
 
 /* Signs the block text. It is `block` and the draft, so what is signed is what is appended. */
 static ledger_signature sign_block(const controller *c, ledger_slot now, ledger_signature slot_signature) {
-    uint8_t draft[LEDGER_BLOCK_BYTES];
+    uint8_t draft[LEDGER_DRAFT_BYTES];
     uint8_t text[LEDGER_BLOCK_TEXT_BYTES];
     ledger_issue_answer drafted = ledger_draft(genesis, genesis_length, now, c->held, sizeof c->held, c->length, c->pool, c->number,
                                                slot_signature, draft, sizeof draft);
