@@ -1,48 +1,48 @@
-//! With the feature `proved`: links the archive that `rt staticlib ledger` wrote, the plain C digest of the benchmarks, and the calls from C.
-use std::path::Path;
+//! With the feature `proved`: links the archive that `rt staticlib ledger` wrote. With `benchmarks` also the plain C digest.
+use std::path::{Path, PathBuf};
 use std::process::Command;
 use std::{env, fs};
 
 fn main() {
-    println!("cargo:rerun-if-changed=c");
-    println!("cargo:rerun-if-changed=../include");
-    if env::var_os("CARGO_FEATURE_PROVED").is_none() {
-        return;
+    println!("cargo:rerun-if-changed=build.rs");
+    if env::var_os("CARGO_FEATURE_PROVED").is_some() {
+        link_archive();
     }
-    let root = Path::new(&env::var("CARGO_MANIFEST_DIR").unwrap()).join("..");
-    let archive = root.join("target/staticlib/libledger.a");
+    if env::var_os("CARGO_FEATURE_BENCHMARKS").is_some() {
+        compile_plain_digest("O2");
+        compile_plain_digest("O3");
+    }
+}
+
+fn link_archive() {
+    let archive = package().join("../target/staticlib/libledger.a");
     assert!(
         archive.exists(),
         "no target/staticlib/libledger.a: run `rt staticlib ledger` first"
     );
     println!("cargo:rerun-if-changed={}", archive.display());
-    compile("calls", "every_call.c", &["-std=c99", "-Wpedantic", "-O1"]);
-    for level in ["O2", "O3"] {
-        compile(
-            &format!("plain_{level}"),
-            "plain_sha256.c",
-            &[
-                &format!("-{level}"),
-                &format!("-DNAME=plain_sha256_{level}"),
-            ],
-        );
-    }
     link("ledger", archive.parent().unwrap());
 }
 
-/// Has a C file compiled and linked.
-fn compile(name: &str, file: &str, options: &[&str]) {
-    let root = Path::new(&env::var("CARGO_MANIFEST_DIR").unwrap()).join("..");
+/// Has the digest compiled at this level of optimisation, under a name of its own.
+fn compile_plain_digest(level: &str) {
+    let file = package().join("c/plain_sha256.c");
+    println!("cargo:rerun-if-changed={}", file.display());
     let out = env::var("OUT_DIR").unwrap();
+    let name = format!("plain_{level}");
     let object = format!("{out}/{name}.o");
     run(Command::new("gcc")
-        .args(options)
-        .args(["-Wall", "-Wextra", "-Werror", "-c", "-I"])
-        .arg(root.join("include"))
-        .arg(root.join("host/c").join(file))
+        .args(["-Wall", "-Wextra", "-Werror", "-c"])
+        .arg(format!("-{level}"))
+        .arg(format!("-DNAME=plain_sha256_{level}"))
+        .arg(file)
         .args(["-o", &object]));
     run(Command::new("ar").args(["rcs", &format!("{out}/lib{name}.a"), &object]));
-    link(name, Path::new(&out));
+    link(&name, Path::new(&out));
+}
+
+fn package() -> PathBuf {
+    env::var_os("CARGO_MANIFEST_DIR").unwrap().into()
 }
 
 fn link(name: &str, folder: &Path) {

@@ -1,6 +1,9 @@
 /* Each call of include/ledger.h from C, with arguments and answers that can be told apart: nothing else ties the header to the archive.
-   `every_call` answers 0, or the line of the first answer that is not as expected. */
+   It prints the line of the first answer that is not as expected, and then its exit status is 1. */
 #include "sample.h"
+
+#include <stdio.h>
+#include <stdlib.h>
 
 #define FILLER 0xEE
 #define EXPECT(fact)         \
@@ -8,8 +11,6 @@
         if (!(fact))         \
             return __LINE__; \
     } while (0)
-
-int every_call(void);
 
 static int numbers(void) {
     uint8_t out[5];
@@ -22,6 +23,16 @@ static int numbers(void) {
     EXPECT(ledger_write_number(out, sizeof out, 1, UINT32_MAX).refusal == LEDGER_SHORT_BUFFER);
     EXPECT(ledger_read_number(out, 2, 1).refusal == LEDGER_CUT);
     EXPECT(ledger_read_number((const uint8_t *)"\x80", 2, 0).refusal == LEDGER_BAD_NUMBER);
+    return 0;
+}
+
+/* A digest has as many bytes as a link, and the longest message is digested. */
+static int digests(void) {
+    static uint8_t message[LEDGER_MESSAGE_BYTES + 1];
+    ledger_digest_answer digested = ledger_digest(message, LEDGER_MESSAGE_BYTES);
+    EXPECT(digested.refusal == 0 && digested.place == 0 && sizeof digested.digest == LEDGER_LINK_BYTES);
+    digested = ledger_digest(message, LEDGER_MESSAGE_BYTES + 1);
+    EXPECT(digested.refusal == LEDGER_TOO_LONG && digested.place == 0);
     return 0;
 }
 
@@ -39,6 +50,7 @@ static int tables(void) {
     EXPECT(ledger_find_key(genesis, length, 7).refusal == LEDGER_NOT_ITS_TURN);
     EXPECT(ledger_turn(read.table, (ledger_slot){7}) == 1);
     EXPECT(ledger_turn(read.table, (ledger_slot){256}) == 4);
+    EXPECT(ledger_turn(read.table, (ledger_slot){0}) == 1);
     EXPECT(ledger_depth(read.table) == 4);
     return 0;
 }
@@ -72,6 +84,10 @@ static int checks(const struct chain *c) {
     EXPECT(checked.releases[0] == 0 && checked.releases[2] == 42 && checked.releases[63] == 0);
     checked = ledger_check(c->genesis, c->genesis_length, now, c->bytes, c->length, (const uint8_t *)"\3\2", 2);
     EXPECT(checked.refusal == LEDGER_BAD_VERDICT && checked.place == 2 && checked.count.number == 0);
+    checked = ledger_check(c->genesis, c->genesis_length, now, c->bytes, c->length, (const uint8_t *)"\3\3", 1);
+    EXPECT(checked.refusal == LEDGER_BAD_VERDICT && checked.place == 2);
+    checked = ledger_check(c->genesis, c->genesis_length, now, c->bytes, c->length, (const uint8_t *)"\3\3\2", 3);
+    EXPECT(checked.refusal == 0 && checked.count.number == 2);
     ledger_step_answer step = ledger_walk_step(c->bytes, c->length, c->first);
     EXPECT(step.refusal == 0 && step.place == 0 && !step.end && step.next == c->length);
     EXPECT(step.block.front.slot.number == 3 && step.block.block_signature[63] == 0xB1);
@@ -108,7 +124,7 @@ static int adopts(const struct chain *c) {
 /* Pools an order at slot 20, controller 2's turn, behind the two blocks that are held, and issues it. */
 static int issues(const struct chain *c) {
     const ledger_slot now = {20};
-    uint8_t held[3 * LEDGER_BLOCK_BYTES], draft[LEDGER_BLOCK_BYTES], text[LEDGER_BLOCK_TEXT_BYTES];
+    uint8_t held[3 * LEDGER_BLOCK_BYTES], draft[LEDGER_DRAFT_BYTES], text[LEDGER_BLOCK_TEXT_BYTES];
     memset(held, FILLER, sizeof held);
     memcpy(held, c->bytes, c->length);
     ledger_pool pool;
@@ -131,6 +147,8 @@ static int issues(const struct chain *c) {
     EXPECT(memcmp(text, "block", 5) == 0 && memcmp(text + 5, draft, 102) == 0);
     issued = ledger_draft(c->genesis, c->genesis_length, now, held, sizeof held, c->length, pool, 3, first, draft, sizeof draft);
     EXPECT(issued.refusal == LEDGER_NOT_ITS_TURN && issued.length == 0);
+    issued = ledger_append(c->genesis, c->genesis_length, now, held, sizeof held, c->length, pool, 3, first, second);
+    EXPECT(issued.refusal == LEDGER_NOT_ITS_TURN && issued.length == 0 && held[c->length] == FILLER);
     issued = ledger_append(c->genesis, c->genesis_length, now, held, sizeof held, c->length, pool, 2, first, second);
     EXPECT(issued.refusal == 0 && issued.place == 0 && issued.length == c->length + 102 + 64);
     EXPECT(memcmp(held + c->length, draft, 102) == 0 && held[issued.length - 1] == 0xB1 && held[issued.length] == FILLER);
@@ -146,15 +164,21 @@ static int reports(const struct chain *c) {
     EXPECT(report.releases[1] == 0 && report.releases[2] == 41 && report.releases[63] == 0);
     report = ledger_report(c->genesis, c->genesis_length, (ledger_slot){2}, c->bytes, sizeof c->bytes, c->length);
     EXPECT(report.refusal == LEDGER_BAD_HELD && report.place == 2 && report.held.number == 0);
+    report = ledger_report(c->genesis, c->genesis_length, (ledger_slot){7}, c->bytes, sizeof c->bytes, sizeof c->bytes + 1);
+    EXPECT(report.refusal == LEDGER_BAD_HELD && report.place == 0);
+    report = ledger_report(c->genesis, c->genesis_length, (ledger_slot){7}, c->bytes, sizeof c->bytes, 0);
+    EXPECT(report.refusal == 0 && report.held.number == 0 && report.releases[2] == 40);
     return 0;
 }
 
-int every_call(void) {
+int main(void) {
     struct chain chain;
     chain_of(&chain);
-    const int lines[] = {numbers(), tables(), blocks(), checks(&chain), adopts(&chain), issues(&chain), reports(&chain)};
+    const int lines[] = {numbers(), digests(), tables(), blocks(), checks(&chain), adopts(&chain), issues(&chain), reports(&chain)};
     for (size_t i = 0; i < sizeof lines / sizeof *lines; i++)
-        if (lines[i] != 0)
-            return lines[i];
-    return 0;
+        if (lines[i] != 0) {
+            printf("every_call.c, line %d\n", lines[i]);
+            return EXIT_FAILURE;
+        }
+    return EXIT_SUCCESS;
 }

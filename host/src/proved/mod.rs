@@ -40,16 +40,3 @@ fn told<T>(number: u32, place: u32, value: T) -> Result<T, Refusal> {
         number => Err(Refusal { number, place }),
     }
 }
-
-#[cfg(test)]
-mod tests {
-    extern "C" {
-        fn every_call() -> i32;
-    }
-
-    /// The header's declarations, in `host/c/every_call.c`.
-    #[test]
-    fn every_call_from_c() {
-        assert_eq!(unsafe { every_call() }, 0, "a line of every_call.c");
-    }
-}

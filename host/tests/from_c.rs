@@ -1,4 +1,5 @@
-//! The C example `host/c/small_run.c`, built as its reader would build it: what it prints is worked out here by hand from 01.
+//! The programs in C that go through `include/ledger.h`: each call once (`host/c/every_call.c`), and the example `host/c/small_run.c`. What the
+//! example prints is worked out here by hand from 01.
 #![cfg(feature = "proved")]
 use std::path::Path;
 use std::process::Command;
@@ -26,21 +27,15 @@ slot 4: controller 1 reports 3 held, 2 settled, display 4 is to boot 300
 slot 4: controller 2 reports 3 held, 2 settled, display 4 is to boot 300
 ";
 
-#[test]
-fn the_account_of_the_c_example() {
+/// Builds a program of `host/c` with the header and the archive, as its reader would, and gives what it prints and whether it succeeded.
+fn printed(name: &str) -> (String, bool) {
     let root = Path::new(env!("CARGO_MANIFEST_DIR")).join("..");
-    let program = Path::new(env!("CARGO_TARGET_TMPDIR")).join("small_run");
+    let program = Path::new(env!("CARGO_TARGET_TMPDIR")).join(name);
     let built = Command::new("gcc")
-        .args([
-            "-std=c99",
-            "-Wall",
-            "-Wextra",
-            "-Werror",
-            "-Wpedantic",
-            "-I",
-        ])
+        .args(["-std=c99", "-Wall", "-Wextra", "-Werror", "-Wpedantic"])
+        .arg("-I")
         .arg(root.join("include"))
-        .arg(root.join("host/c/small_run.c"))
+        .arg(root.join("host/c").join(name).with_extension("c"))
         .arg(root.join("target/staticlib/libledger.a"))
         .arg("-o")
         .arg(&program)
@@ -48,6 +43,16 @@ fn the_account_of_the_c_example() {
         .expect("gcc");
     assert!(built.success());
     let ran = Command::new(&program).output().unwrap();
-    assert_eq!(String::from_utf8(ran.stdout).unwrap(), ACCOUNT);
-    assert!(ran.status.success());
+    (String::from_utf8(ran.stdout).unwrap(), ran.status.success())
+}
+
+#[test]
+fn the_account_of_the_c_example() {
+    assert_eq!(printed("small_run"), (ACCOUNT.into(), true));
+}
+
+/// The header's declarations.
+#[test]
+fn every_call() {
+    assert_eq!(printed("every_call"), (String::new(), true));
 }
