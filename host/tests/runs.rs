@@ -33,12 +33,14 @@ fn were_disturbed(accounts: &[Account]) {
     }
 }
 
-/// A block in every slot: the depth is 1, so of those of slots 1 to 255, which are held in slot 256, those before 255 are settled.
+/// A block in every slot: the depth is 1, so of those of slots 1 to 255, which are held in slot 256, those before 255 are settled. Each of these 255
+/// chains is adopted by all but the one that issued it.
 #[test]
 fn nobody_is_faulty() {
     for (n, seeds) in [(1, 2), (2, 2), (5, 2)] {
         for account in runs(n, 0, 256, seeds) {
             assert_eq!((account.settled, account.forks), (254, 0));
+            assert_eq!(account.adopted, 255 * (n - 1));
         }
     }
 }
@@ -86,16 +88,13 @@ fn report_at<const DEPTH: u32>(
     held_length: usize,
 ) -> Result<Report, Refusal> {
     let report = report::report(genesis, now, held, held_length)?;
-    let (mut count, mut length) = (0, 0);
-    while let Some((block, end)) = walk::step(&held[..held_length], length)? {
-        if block.slot.0 + DEPTH >= now.0 {
-            break;
-        }
-        (count, length) = (count + 1, end);
-    }
+    let lengths: Vec<usize> = walk::blocks(&held[..held_length])
+        .take_while(|(block, _)| block.slot.0 + DEPTH < now.0)
+        .map(|(_, bytes)| bytes.len())
+        .collect();
     Ok(Report {
-        settled: BlockCount(count),
-        settled_length: length,
+        settled: BlockCount(lengths.len() as u32),
+        settled_length: lengths.iter().sum(),
         ..report
     })
 }
@@ -116,12 +115,9 @@ fn settling_too_soon_would_be_seen() {
 
 /// The last block's stamp.
 fn last(chain: &[u8]) -> Slot {
-    let mut last = Slot(0);
-    let mut at = 0;
-    while let Ok(Some((block, end))) = walk::step(chain, at) {
-        (last, at) = (block.slot, end);
-    }
-    last
+    walk::blocks(chain)
+        .last()
+        .map_or(Slot(0), |(block, _)| block.slot)
 }
 
 /// The rule that was given up: "Ours took the list with the newest date."

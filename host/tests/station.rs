@@ -1,7 +1,8 @@
 //! The report program against the second implementation: the same input, the same text. Where 01 gives a text by hand it stands here too. The
-//! program is the one that `rt check station` builds; where it was not built, only the second implementation is held to the texts.
+//! program is the one that `rt check station` builds, and with the feature `proved` it must be there. Without the feature only the second
+//! implementation is held to the texts by hand, and what only compares the two is ignored.
 use std::io::Write;
-use std::path::{Path, PathBuf};
+use std::path::Path;
 use std::process::{Command, Stdio};
 use std::thread;
 
@@ -9,13 +10,13 @@ use host::second::report::station;
 use host::second::samples::{self, block, order};
 use host::second::{chain, number};
 
-fn program() -> Option<PathBuf> {
-    let path = Path::new(env!("CARGO_MANIFEST_DIR")).join("../target/bin/station");
-    path.exists().then_some(path)
-}
-
 /// What the program writes. It need not read all of its input.
-fn printed(program: &Path, input: &[u8]) -> String {
+fn printed(input: &[u8]) -> String {
+    let program = Path::new(env!("CARGO_MANIFEST_DIR")).join("../target/bin/station");
+    assert!(
+        program.exists(),
+        "no target/bin/station: run `rt check station` first"
+    );
     let mut child = Command::new(program)
         .stdin(Stdio::piped())
         .stdout(Stdio::piped())
@@ -30,11 +31,11 @@ fn printed(program: &Path, input: &[u8]) -> String {
     String::from_utf8(output.stdout).unwrap()
 }
 
-/// The second implementation's text, and the program's where there is one.
+/// The second implementation's text, which the program's must be too.
 fn same(name: &str, input: &[u8]) -> String {
     let text = station(input);
-    if let Some(program) = program() {
-        assert_eq!(printed(&program, input), text, "{name}");
+    if cfg!(feature = "proved") {
+        assert_eq!(printed(input), text, "{name}");
     }
     text
 }
@@ -60,70 +61,77 @@ fn several_displays() -> (Vec<u8>, Vec<u8>) {
     (genesis, held)
 }
 
+/// A name, and the input. The same text is expected of each.
+fn by_hand(text: &str, inputs: &[(&str, Vec<u8>)]) {
+    for (name, input) in inputs {
+        assert_eq!(same(name, input), text, "{name}");
+    }
+}
+
 #[test]
-fn texts_by_hand() {
-    let (genesis, held) = several_displays();
+fn reports_by_hand() {
     let worked = samples::worked_genesis().bytes();
-    let start = input(&worked, &[], &[]);
-    let one_too_long = vec![0; chain::LONGEST + 1];
-    let mut second_cut = held.clone();
-    second_cut.truncate(300);
-    for (name, input, text) in [
-        ("01's example", input(&worked, &[1], &[]), "1 0 0\n0 7\n"),
-        (
+    by_hand(
+        "1 0 0\n0 7\n",
+        &[("01's example", input(&worked, &[1], &[]))],
+    );
+    let (genesis, held) = several_displays();
+    by_hand(
+        "10 4 2\n0 7\n2 300\n9 3\n10 1\n63 4294967295\n",
+        &[(
             "settled and unsettled orders",
             input(&genesis, &[10], &held),
-            "10 4 2\n0 7\n2 300\n9 3\n10 1\n63 4294967295\n",
-        ),
-        (
-            "block 2 cut",
-            input(&genesis, &[10], &second_cut),
-            "refused 17 2\n",
-        ),
-        (
-            "a stamp above now",
-            input(&genesis, &[9], &held),
-            "refused 17 4\n",
-        ),
-        (
-            "one byte too long",
-            input(&genesis, &[10], &one_too_long),
-            "refused 17 0\n",
-        ),
-        (
-            "now 0 before too long",
-            input(&genesis, &[0], &one_too_long),
-            "refused 2 0\n",
-        ),
-        ("now 257", input(&genesis, &[0x81, 2], &[]), "refused 2 0\n"),
-        ("no now", start.clone(), "refused 2 0\n"),
-        ("now cut", [&start[..], &[0x80]].concat(), "refused 2 0\n"),
-        (
-            "now 80 00",
-            [&start[..], &[0x80, 0]].concat(),
-            "refused 2 0\n",
-        ),
-        ("no input", vec![], "refused 1 0\n"),
-        ("length cut", vec![0x80], "refused 1 0\n"),
-        (
-            "length not shortest",
-            [&[0xE3, 0], &start[1..], &[1]].concat(),
-            "refused 1 0\n",
-        ),
-        (
-            "length 1,316",
-            [&[0xA4, 0x0A][..], &[1; 1400]].concat(),
-            "refused 1 0\n",
-        ),
-        (
-            "too short for its genesis",
-            start[..start.len() - 1].to_vec(),
-            "refused 1 0\n",
-        ),
-        ("bad genesis, now cut", vec![1, 0, 0x80], "refused 1 0\n"),
-    ] {
-        assert_eq!(same(name, &input), text, "{name}");
-    }
+        )],
+    );
+}
+
+#[test]
+fn bad_held_chains_by_hand() {
+    let (genesis, held) = several_displays();
+    let at = |now: u8, held: &[u8]| input(&genesis, &[now], held);
+    by_hand("refused 17 2\n", &[("block 2 cut", at(10, &held[..300]))]);
+    by_hand("refused 17 4\n", &[("a stamp above now", at(9, &held))]);
+    let one_too_long = vec![0; chain::LONGEST + 1];
+    by_hand(
+        "refused 17 0\n",
+        &[("one byte too long", at(10, &one_too_long))],
+    );
+    by_hand(
+        "refused 2 0\n",
+        &[("now 0 before too long", at(0, &one_too_long))],
+    );
+}
+
+#[test]
+fn bad_starts_by_hand() {
+    let start = input(&samples::worked_genesis().bytes(), &[], &[]);
+    let then = |now: &[u8]| [&start[..], now].concat();
+    by_hand(
+        "refused 2 0\n",
+        &[
+            ("now 257", then(&[0x81, 2])),
+            ("no now", then(&[])),
+            ("now cut", then(&[0x80])),
+            ("now 80 00", then(&[0x80, 0])),
+        ],
+    );
+    by_hand(
+        "refused 1 0\n",
+        &[
+            ("no input", vec![]),
+            ("length cut", vec![0x80]),
+            (
+                "length not shortest",
+                [&[0xE3, 0], &start[1..], &[1]].concat(),
+            ),
+            ("length 1,316", [&[0xA4, 0x0A][..], &[1; 1400]].concat()),
+            (
+                "too short for its genesis",
+                start[..start.len() - 1].to_vec(),
+            ),
+            ("bad genesis, now cut", vec![1, 0, 0x80]),
+        ],
+    );
 }
 
 #[test]
@@ -146,12 +154,17 @@ fn bad_geneses() {
     }
 }
 
-/// The longest input with an answer, and inputs beyond what the program looks at.
 #[test]
-fn long_inputs() {
+fn the_longest_input_with_an_answer() {
     let (genesis, held) = samples::longest_chain(256);
     let text = same("the longest chain", &input(&genesis, &[0x80, 2], &held));
     assert!(text.starts_with("256 256 254\n"), "{text}");
+}
+
+/// Inputs beyond what the program looks at.
+#[test]
+#[cfg_attr(not(feature = "proved"), ignore = "compares with the program")]
+fn longer_inputs() {
     let mut table = samples::genesis(31, 6, 64);
     table.releases = [u32::MAX; 64];
     let genesis = table.bytes();
@@ -167,6 +180,7 @@ fn long_inputs() {
 
 /// One byte changed anywhere in a good input.
 #[test]
+#[cfg_attr(not(feature = "proved"), ignore = "compares with the program")]
 fn changed_bytes() {
     let (genesis, held) = several_displays();
     let good = input(&genesis, &[10], &held);

@@ -88,7 +88,10 @@ impl Faulty {
     /// A chain to build on: the longest, or one of the last.
     fn base(&self, chance: &mut Chance) -> Chain {
         let known = [&self.seen[..], &self.hidden].concat();
-        let longest = known.iter().max_by_key(|chain| blocks(chain)).unwrap();
+        let longest = known
+            .iter()
+            .max_by_key(|chain| walk::blocks(chain).count())
+            .unwrap();
         match chance.below(3) {
             0 => known[known.len() - 1 - chance.below(known.len().min(6))].clone(),
             _ => longest.clone(),
@@ -131,16 +134,6 @@ fn some_of(correct: usize, chance: &mut Chance) -> impl Iterator<Item = usize> {
     let share = chance.of(&[1, 2, 4]);
     let chosen: Vec<usize> = (0..correct).filter(|_| chance.once_in(share)).collect();
     chosen.into_iter()
-}
-
-fn blocks(chain: &[u8]) -> usize {
-    let mut count = 0;
-    let mut at = 0;
-    while let Ok(Some((_, end))) = walk::step(chain, at) {
-        count += 1;
-        at = end;
-    }
-    count
 }
 
 /// What a faulty controller signs.

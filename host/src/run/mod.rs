@@ -33,6 +33,7 @@ pub struct Account {
     pub settled: u32,
     /// In how many slots two correct controllers held different chains after their deliveries.
     pub forks: u32,
+    /// How often a delivered chain was adopted.
     pub adopted: u32,
     /// How many orders were pooled.
     pub pooled: u32,

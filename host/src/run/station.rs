@@ -74,16 +74,13 @@ impl Station {
     /// True verdicts on the blocks of a delivered chain, as far as they can be read.
     pub fn verdicts(&self, chain: &[u8]) -> Vec<u8> {
         let mut known = self.known.borrow_mut();
-        let mut verdicts = Vec::new();
-        let mut at = 0;
-        while let Ok(Some((block, end))) = walk::step(chain, at) {
-            let bytes = &chain[at..end];
-            if !known.contains_key(bytes) {
-                known.insert(bytes.to_vec(), self.verdict(&block, bytes));
-            }
-            verdicts.push(known[bytes]);
-            at = end;
-        }
-        verdicts
+        walk::blocks(chain)
+            .map(|(block, bytes)| {
+                if !known.contains_key(bytes) {
+                    known.insert(bytes.to_vec(), self.verdict(&block, bytes));
+                }
+                known[bytes]
+            })
+            .collect()
     }
 }

@@ -31,6 +31,17 @@ pub fn step(chain: &[u8], place: usize) -> Result<Option<(Block, usize)>, Refusa
     }
 }
 
+/// The blocks of a chain, each with its bytes, to the end or to the first that can't be read.
+pub fn blocks(chain: &[u8]) -> impl Iterator<Item = (Block, &[u8])> {
+    let mut place = 0;
+    std::iter::from_fn(move || {
+        let (block, end) = step(chain, place).ok()??;
+        let bytes = &chain[place..end];
+        place = end;
+        Some((block, bytes))
+    })
+}
+
 #[cfg(test)]
 mod tests {
     use super::*;
@@ -51,6 +62,17 @@ mod tests {
         for _ in 0..2 {
             assert_eq!(walk.step(), Ok(None));
             assert_eq!(walk.place, bytes.len());
+        }
+    }
+
+    #[test]
+    fn the_blocks_that_can_be_read() {
+        let parts: Vec<Vec<u8>> = samples::blocks().iter().map(Block::bytes).collect();
+        let chain = parts.concat();
+        for (end, count) in [(825, 5), (824, 4), (660, 4), (1, 0), (0, 0)] {
+            let (read, bytes): (Vec<Block>, Vec<&[u8]>) = blocks(&chain[..end]).unzip();
+            assert_eq!(read, samples::blocks()[..count]);
+            assert_eq!(bytes, parts[..count]);
         }
     }
 

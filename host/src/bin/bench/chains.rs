@@ -1,6 +1,7 @@
 //! Checking and adopting a chain against the second implementation, and against the digests of its blocks.
 use std::hint::black_box;
 
+use host::calls::{Adopt, Check};
 use host::second::order::{BlockCount, Slot};
 use host::second::samples;
 use host::{proved, second};
@@ -29,13 +30,9 @@ impl Chain {
 
     /// The blocks one by one.
     pub fn blocks(&self) -> Vec<&[u8]> {
-        let mut blocks = Vec::new();
-        let mut at = 0;
-        while let Some((_, end)) = second::walk::step(&self.bytes, at).unwrap() {
-            blocks.push(&self.bytes[at..end]);
-            at = end;
-        }
-        blocks
+        second::walk::blocks(&self.bytes)
+            .map(|(_, bytes)| bytes)
+            .collect()
     }
 }
 
@@ -60,31 +57,15 @@ pub fn row(name: &str, blocks: &[&[u8]], proved: &mut dyn FnMut(), second: &mut 
 fn checks(blocks: u32) {
     let chain = &Chain::new(blocks);
     let (genesis, now, verdicts) = (&chain.genesis, chain.now, &chain.verdicts);
-    let expected = second::chain::check(genesis, now, &chain.bytes, verdicts);
+    let checked = |check: Check| check(genesis, now, black_box(&chain.bytes), verdicts);
+    let expected = checked(second::chain::check);
     assert_eq!(expected.map(|(count, _)| count), Ok(BlockCount(blocks)));
-    assert_eq!(
-        proved::check(genesis, now, &chain.bytes, verdicts),
-        expected
-    );
+    assert_eq!(checked(proved::check), expected);
     row(
         &format!("check of {blocks} blocks"),
         &chain.blocks(),
-        &mut || {
-            keep(proved::check(
-                genesis,
-                now,
-                black_box(&chain.bytes),
-                verdicts,
-            ))
-        },
-        &mut || {
-            keep(second::chain::check(
-                genesis,
-                now,
-                black_box(&chain.bytes),
-                verdicts,
-            ))
-        },
+        &mut || keep(checked(proved::check)),
+        &mut || keep(checked(second::chain::check)),
     );
 }
 
@@ -98,38 +79,23 @@ fn adopts(blocks: u32, held: usize) {
     let mut first = chain.bytes.clone();
     let mut other = chain.bytes.clone();
     let expected = Ok((chain.bytes.len(), BlockCount(blocks)));
-    let delivered = &chain.bytes;
-    assert_eq!(
-        proved::adopt(genesis, now, &mut first, length, delivered, verdicts),
-        expected
-    );
-    assert_eq!(
-        second::adopt::adopt(genesis, now, &mut other, length, delivered, verdicts),
-        expected
-    );
+    let adopted = |adopt: Adopt, held: &mut [u8]| {
+        adopt(
+            genesis,
+            now,
+            held,
+            length,
+            black_box(&chain.bytes),
+            verdicts,
+        )
+    };
+    assert_eq!(adopted(proved::adopt, &mut first), expected);
+    assert_eq!(adopted(second::adopt::adopt, &mut other), expected);
     row(
         &format!("adoption of {blocks} blocks where {held} are held"),
         &judged,
-        &mut || {
-            keep(proved::adopt(
-                genesis,
-                now,
-                black_box(&mut first),
-                length,
-                delivered,
-                verdicts,
-            ))
-        },
-        &mut || {
-            keep(second::adopt::adopt(
-                genesis,
-                now,
-                black_box(&mut other),
-                length,
-                delivered,
-                verdicts,
-            ))
-        },
+        &mut || keep(adopted(proved::adopt, black_box(&mut first))),
+        &mut || keep(adopted(second::adopt::adopt, black_box(&mut other))),
     );
 }
 

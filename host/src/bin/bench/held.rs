@@ -39,10 +39,17 @@ fn case(blocks: u32, entries: u32) -> (Case, Chain) {
 /// A call as it is timed. What it changes in a case, it changes back.
 type Timed = fn(&mut Case);
 
-/// The calls on a held chain with the proved library and with the second implementation.
+/// A call with the proved library and with the second implementation.
+type Contenders = (&'static str, Timed, Timed);
+
+/// It takes no pool.
 #[rustfmt::skip]
-const CALLS: [(&str, Timed, Timed); 4] = [
-    ("report", |case| keep(case.report(proved::report)), |case| keep(case.report(second::report::report))),
+const REPORT: Contenders =
+    ("report", |case| keep(case.report(proved::report)), |case| keep(case.report(second::report::report)));
+
+/// The calls on a held chain and a pool.
+#[rustfmt::skip]
+const POOL_CALLS: [Contenders; 3] = [
     ("offer", |case| offer(case, proved::offer), |case| offer(case, second::pool::offer)),
     ("draft", |case| keep(case.write(proved::draft)), |case| keep(case.write(second::issue::draft))),
     ("append", |case| keep(case.append(proved::append)), |case| keep(case.append(second::issue::append))),
@@ -66,33 +73,38 @@ fn accepted(case: &Case) {
 fn behind(blocks: u32, entries: u32) {
     let (case, chain) = case(blocks, entries);
     accepted(&case);
-    for (name, proved, second) in CALLS {
+    let timed = |name: &str, (_, proved, second): Contenders| {
         let [mut first, mut other] = [case.clone(), case.clone()];
         row(
-            &format!("{name}: {blocks} blocks, {entries} entries"),
+            name,
             &chain.blocks(),
             &mut || proved(black_box(&mut first)),
             &mut || second(black_box(&mut other)),
         );
+    };
+    timed(&format!("{}: {blocks} blocks", REPORT.0), REPORT);
+    for call in POOL_CALLS {
+        timed(
+            &format!("{}: {blocks} blocks, {entries} entries", call.0),
+            call,
+        );
     }
 }
 
-/// A row for each call where no block is held.
-fn behind_none(entries: u32) {
+/// A row for a call where no block is held.
+fn behind_none(name: &str, entries: u32, (_, proved, second): Contenders) {
     let (case, _) = case(0, entries);
     accepted(&case);
-    for (name, proved, second) in CALLS {
-        let [mut first, mut other] = [case.clone(), case.clone()];
-        let repeat = |call: Timed, case: &mut Case| (0..50).for_each(|_| call(black_box(case)));
-        let times = least(
-            1000,
-            &mut [&mut || repeat(proved, &mut first), &mut || {
-                repeat(second, &mut other)
-            }],
-        );
-        let times: Vec<f64> = times.iter().map(|time| time / 50.0).collect();
-        digests::row(&format!("{name}: {entries} entries"), &times);
-    }
+    let [mut first, mut other] = [case.clone(), case];
+    let repeat = |call: Timed, case: &mut Case| (0..50).for_each(|_| call(black_box(case)));
+    let times = least(
+        1000,
+        &mut [&mut || repeat(proved, &mut first), &mut || {
+            repeat(second, &mut other)
+        }],
+    );
+    let times: Vec<f64> = times.iter().map(|time| time / 50.0).collect();
+    digests::row(name, &times);
 }
 
 pub fn table() {
@@ -103,6 +115,10 @@ pub fn table() {
     println!();
     println!("| call, no block held | proved | against Rust |");
     println!("|---|---|---|");
-    behind_none(0);
-    behind_none(63);
+    behind_none(REPORT.0, 0, REPORT);
+    for entries in [0, 63] {
+        for call in POOL_CALLS {
+            behind_none(&format!("{}: {entries} entries", call.0), entries, call);
+        }
+    }
 }

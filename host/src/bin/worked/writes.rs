@@ -210,9 +210,14 @@ const PLAIN_FRONT: &str = "00*32+01022829+09*65";
 const PLAIN: &str = "00*32+01022829+09*65+f6*64";
 
 fn writes() -> Vec<Case> {
-    let one = || Parts::of(plain());
-    let none = Parts { count: 0, ..one() };
-    let not_above = with_order(order(2, 40, 39));
+    let mut cases = whole_buffers();
+    cases.extend(bytes_that_stay());
+    cases.extend(parts_not_judged());
+    cases
+}
+
+fn whole_buffers() -> Vec<Case> {
+    let one = Parts::of(plain());
     vec![
         write((
             "the shortest, exactly fitting",
@@ -221,9 +226,15 @@ fn writes() -> Vec<Case> {
             0,
         ))
         .by_hand("next 162 00*33+01*65+fe*64"),
-        write(("one order, exactly fitting", one(), 165, 0)).by_hand(format!("next 165 {PLAIN}")),
+        write(("one order, exactly fitting", one, 165, 0)).by_hand(format!("next 165 {PLAIN}")),
         write(("the longest, exactly fitting", Parts::of(longest()), 251, 0)),
         write(("every part unlike the others", Parts::of(mixed()), 251, 0)),
+    ]
+}
+
+fn bytes_that_stay() -> Vec<Case> {
+    let one = || Parts::of(plain());
+    vec![
         write((
             "inside a buffer: the bytes before and after stay",
             one(),
@@ -233,6 +244,17 @@ fn writes() -> Vec<Case> {
         .by_hand(format!("next 172 ee*7+{PLAIN}+ee*28")),
         write(("at a place, exactly fitting", one(), 200, 35))
             .by_hand(format!("next 200 ee*35+{PLAIN}")),
+    ]
+}
+
+/// Orders past the count, and releases in any order.
+fn parts_not_judged() -> Vec<Case> {
+    let none = Parts {
+        count: 0,
+        ..Parts::of(plain())
+    };
+    let not_above = with_order(order(2, 40, 39));
+    vec![
         write((
             "a count of 0: the listed order is not looked at",
             none,

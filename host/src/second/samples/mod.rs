@@ -56,9 +56,9 @@ pub fn worked_genesis() -> Genesis {
     }
 }
 
-/// Genesis bytes that break a rule, and which.
-pub fn bad_geneses() -> Vec<(String, Vec<u8>)> {
-    let mut bad: Vec<(String, Vec<u8>)> = [
+/// Genesis bytes whose n, t or u is out of its range.
+fn bad_heads() -> Vec<(String, Vec<u8>)> {
+    [
         (0, 0, 1),
         (32, 0, 1),
         (257, 0, 1),
@@ -81,7 +81,12 @@ pub fn bad_geneses() -> Vec<(String, Vec<u8>)> {
         table.n = n;
         (format!("n = {n}, t = {t}, u = {u}"), table.bytes())
     })
-    .into();
+    .into()
+}
+
+/// Genesis bytes that break a rule, and which.
+pub fn bad_geneses() -> Vec<(String, Vec<u8>)> {
+    let mut bad = bad_heads();
     let good = table();
     for end in 0..good.len() {
         bad.push((format!("cut to {end} bytes"), good[..end].to_vec()));
