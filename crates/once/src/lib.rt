@@ -1,0 +1,1 @@
+// No function: that no contract of a public function leaves a choice.
