@@ -3,7 +3,7 @@
 -- have at most one block for each good slot and two for each bad one. 4: fewer than a third of any long window's slots are bad. 5: so that
 -- last common slot is no more slots ago than the depth, and what is settled lies before it, where both chains are the one issued in it.
 -- Assumes nothing: `Laws` is what is asked of a run, `Windows` how thin its bad slots lie, `Viable` what a correct controller holds.
-use Prim.Native.Nat.{ℕ, _+_, _-_, _*_, _≤_}
+use Prim.Native.Nat.{ℕ, _+_, _-_, _≤_}
 use mathlib.Core.Path.{_≡_}
 use mathlib.Core.Bool.{Bool}
 use mathlib.Core.List.{List, [], _∷_, _++_}

@@ -2,13 +2,13 @@
 -- 01's "It has 162 to 251 bytes".
 -- Assumes nothing.
 use mathlib.Core.Path.{_≡_}
-use mathlib.Core.List.{List, [], _∷_, _++_}
-use Prim.Native.Nat.{ℕ, _+_, _*_, _≤_}
-use lib.ListN.{length, drop, length-append}
+use mathlib.Core.List.{List, _++_}
+use Prim.Native.Nat.{ℕ, _+_, _≤_}
+use lib.ListN.{length, drop}
 use Rattle.laws.specs.Told.{gives, Found, found}
-use Rattle.laws.specs.Format.{Bytes, Each}
+use Rattle.laws.specs.Format.{Bytes}
 use Rattle.laws.proofs.Format.{different-bytes, one-form}
-use Rattle.block.specs.Block.{Parts, orderBytes, ordersBytes, frontBytes, blockBytes, blockAt, OrderFits, Fits}
+use Rattle.block.specs.Block.{Parts, blockBytes, blockAt, Fits}
 use Rattle.block.proofs.RoundTrip.{block-inverse}
 use Rattle.block.proofs.Lengths.{block-length}
 

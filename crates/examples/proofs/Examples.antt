@@ -3,9 +3,9 @@
 use mathlib.Core.Path.{_≡_, refl}
 use mathlib.Core.Bool.{true}
 use Rattle.laws.specs.Every.{every}
-use Rattle.number.specs.Number.{groups, written}
+use Rattle.number.specs.Number.{groups, written, readGroups, numberAt}
 use Rattle.examples.specs.Cases.{holds, cases}
 
 pub worked-by-hand : every holds cases ≡ true
-unfolding written groups
+unfolding written groups numberAt readGroups
 worked-by-hand = refl

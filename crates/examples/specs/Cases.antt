@@ -4,11 +4,12 @@ use Prim.Native.Nat.{ℕ, suc}
 use mathlib.Core.Bool.{Bool, true, false, not}
 use mathlib.Core.List.{List, [], _∷_}
 use lib.Dec.{eqb}
-use lib.ListN.{replicate}
-use Rattle.laws.specs.Every.{every, same}
+use lib.ListN.{length, replicate}
+use Rattle.laws.specs.Every.{both, every, same}
 use Rattle.laws.specs.Pick.{pick}
+use Rattle.laws.specs.Told.{Told, gives, refuses, Found}
 use Rattle.laws.specs.Tabulate.{tabulate}
-use Rattle.number.specs.Number.{written}
+use Rattle.number.specs.Number.{written, numberAt}
 use Rattle.genesis.specs.Genesis.{turn}
 use Rattle.genesis.specs.declared.Genesis.{Genesis}
 use Rattle.chain.specs.Chain.{settles}
@@ -29,8 +30,12 @@ table n t = record { n = n; t = t; u = 1; releases = replicate 64 0; keys = 0 }
 abbrev pub opened : ℕ → ℕ → ℕ → Opened
 opened n t clock = record { table = table n t; link = replicate 32 0; clock = record { 0 = clock } }
 
+abbrev pub readsAs : (value next : ℕ) → Told (Found ℕ) → Bool
+readsAs value next (gives r) = both (eqb (r .value) value) (eqb (r .next) next)
+readsAs value next (refuses n place) = false
+
 abbrev pub holds : Case → Bool
-holds (number value bytes) = same (written value) bytes
+holds (number value bytes) = both (same (written value) bytes) (readsAs value (length bytes) (numberAt bytes 0))
 holds (turns n slots controller) = every (λ slot. eqb (turn (table n 0) slot) controller) slots
 holds (stamp n t clock slot settled) = pick settled (settles (opened n t clock) slot) (not (settles (opened n t clock) slot))
 

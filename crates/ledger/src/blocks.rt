@@ -88,7 +88,7 @@ pub extern "C" fn ledger_walk_step(chain: &[u8], at: usize) -> StepAnswer
     ensures next { λ r. ⌜ r .next ≡ placeAfter at (stepAt (now (chain .entry)) at) ⌝ }
     ensures block { λ r. ⌜ r .block ≡ blockBeside (stepAt (now (chain .entry)) at) ⌝ }
 {
-    let stepped = walk::step(chain, at);
+    let stepped = walk::walked(chain, at);
     let reached = stepped.reached;
     let block = stepped.block;
     match reached {

@@ -8,21 +8,11 @@ use lib.ListN.{length}
 use Rattle.laws.specs.Told.{gives}
 use Rattle.laws.specs.Format.{Bytes}
 use Rattle.laws.proofs.Told.{gives-same, then-gives}
-use Rattle.block.specs.Block.{Parts}
-use Rattle.chain.specs.Chain.{opened, held, none, heldChain, holding}
-use Rattle.chain.specs.Blocks.{chainBytes, settledOf, Accepted}
-use Rattle.chain.specs.declared.Opened.{Opened}
-use Rattle.chain.specs.declared.Summary.{Summary}
-use Rattle.chain.proofs.Theorems.{a-held-chain-is-accepted-blocks, accepted-blocks-may-be-held, each-block-counts-once, the-lengths-add-up, the-count-is-the-number-of-blocks, no-more-is-settled-than-there-is}
+use Rattle.chain.specs.Chain.{opened, held, heldChain, holding}
+use Rattle.chain.proofs.Theorems.{a-held-chain-is-accepted-blocks, accepted-blocks-may-be-held, the-count-is-the-number-of-blocks, no-more-is-settled-than-there-is}
 use Rattle.report.specs.Report.{Report, reportOf, reported}
 use Rattle.report.specs.Blocks.{Reports}
-
-module _ (o : Opened) (blocks : List Parts) (s : Summary) (a : Accepted o held blocks s) where
-  settled-count : s .settled .count .0 ≡ length (settledOf o blocks)
-  settled-count = each-block-counts-once (none o) (settledOf o blocks) (s .settled) (a .settled) ∙ omega arith
-
-  settled-length : s .settled .length ≡ length (chainBytes (settledOf o blocks))
-  settled-length = the-lengths-add-up (none o) (settledOf o blocks) (s .settled) (a .settled) ∙ omega arith
+use Rattle.report.proofs.Counts.{settled-count, settled-length}
 
 module _ (genesis : List ℕ) (clock : ℕ) (buffer : List ℕ) (size : ℕ) (r : Report) where
   pub a-report-is-on-accepted-blocks : Bytes buffer → reported genesis clock buffer size ≡ gives r → Reports genesis clock buffer size r

@@ -40,7 +40,7 @@ fn steps(chain: &[u8], at: usize) {
 fn step(chain: &[u8], at: usize) -> bool {
     print::value(b"at", at as u64);
     print::text(b" ");
-    let stepped = walk::step(chain, at);
+    let stepped = walk::walked(chain, at);
     let reached = stepped.reached;
     let block = stepped.block;
     match reached {

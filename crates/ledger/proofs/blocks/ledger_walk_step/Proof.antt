@@ -8,8 +8,8 @@ use Rattle.ledger.specs.Answers.{isEnd}
 use Rattle.ledger.proofs.blocks.ledger_walk_step.Statement.{statement}
 use Rattle.ledger.proofs.blocks.ledger_walk_step.Tie as tie
 
-step-requires : tie.Need-step-requires
-step-requires c κs = search needs
+walked-requires : tie.Need-walked-requires
+walked-requires c κs = search needs
 
 enum-known-reached : tie.Need-enum-known-reached
 enum-known-reached c = search needs
@@ -22,24 +22,24 @@ enum-known-reached-2 c = search needs
 
 returns : tie.Need-returns
 returns c =
-    let told = rw (c .before .reached .given .1) at (c .before .before .before .before .step .ensures .0) in
-    (ap numberOf told, (ap placeOf told, (ap isEnd told, (ap (placeAfter _) told, c .before .before .before .before .step .ensures .1))))
+    let told = rw (c .before .reached .given .1) at (c .before .before .before .before .walked .ensures .0) in
+    (ap numberOf told, (ap placeOf told, (ap isEnd told, (ap (placeAfter _) told, c .before .before .before .before .walked .ensures .1))))
 
 returns-2 : tie.Need-returns-2
 returns-2 c =
-    let told = rw (c .enum-told .given .1) at (c .before .before .before .step .ensures .0) in
-    (ap numberOf told, (ap placeOf told, (ap isEnd told, (ap (placeAfter _) told, c .before .before .before .step .ensures .1))))
+    let told = rw (c .enum-told .given .1) at (c .before .before .before .walked .ensures .0) in
+    (ap numberOf told, (ap placeOf told, (ap isEnd told, (ap (placeAfter _) told, c .before .before .before .walked .ensures .1))))
 
 returns-3 : tie.Need-returns-3
 returns-3 c =
-    let told = rw (c .before .reached2 .given .1) at (c .before .before .before .before .step .ensures .0) in
-    (ap numberOf told, (ap placeOf told, (ap isEnd told, (ap (placeAfter _) told, c .before .before .before .before .step .ensures .1))))
+    let told = rw (c .before .reached2 .given .1) at (c .before .before .before .before .walked .ensures .0) in
+    (ap numberOf told, (ap placeOf told, (ap isEnd told, (ap (placeAfter _) told, c .before .before .before .before .walked .ensures .1))))
 
 pub ledger-walk-step-spec : {M : Type 1} → statement M
 ledger-walk-step-spec =
     tie.close
     (tie.spec
-    step-requires
+    walked-requires
     enum-known-reached
     enum-told
     enum-known-reached-2
