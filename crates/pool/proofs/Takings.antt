@@ -13,6 +13,7 @@ use Rattle.laws.specs.Told.{gives, then, unless}
 use Rattle.laws.specs.Every.{both, every}
 use Rattle.laws.specs.Fold.{folded}
 use Rattle.laws.proofs.Every.{both-true}
+use Rattle.laws.proofs.Each.{each-append, every-each, each-every}
 use Rattle.order.specs.Order.{valid, applied}
 use Rattle.order.specs.declared.Order.{Order}
 use Rattle.chain.specs.Chain.{obeyed}
@@ -28,10 +29,6 @@ obeyed-append releases (x ∷ xs) ys = by-test (valid releases x) (obeyed-append
         ≡ then (unless fine 10 0 (obeyed (applied releases x) xs)) λ after. obeyed after ys
     by-test true more = more
     by-test false more = refl
-
-every-append : {A : Type 0} (test : A → Bool) (xs : List A) (y : A) → every test xs ≡ true → test y ≡ true → every test (xs ++ (y ∷ [])) ≡ true
-every-append test [] y e f = rw f
-every-append test (x ∷ xs) y e f = let (here, rest) = both-true (test x) (every test xs) e in rw here (every-append test xs y rest f)
 
 -- what is kept with each order that is taken
 pub record Fine (limit : ℕ) (releases : List ℕ) (test : Order → Bool) (t : Taking) : Type 0 where
@@ -49,7 +46,8 @@ module _ (limit : ℕ) (releases : List ℕ) (test : Order → Bool) (knows : (r
           let (less, good) = both-true (ltb (length (t .orders)) limit) (valid (t .releases) o) e in
           record {
             few = omega (arith, ltb-true (length (t .orders)) limit less, length-append (t .orders) (o ∷ []));
-            known = every-append test (t .orders) o (fine .known) (knows (t .releases) o good);
+            known = each-every test (t .orders ++ (o ∷ []))
+                (each-append (λ a. test a ≡ true) (t .orders) (o ∷ []) (every-each test (t .orders) (fine .known)) (knows (t .releases) o good, tt));
             obeys = obeyed-append releases (t .orders) (o ∷ []) ∙ rw (fine .obeys, good);
           }
       by-test false e = fine
