@@ -4,6 +4,7 @@ use chain::Answer;
 use chain::Opened;
 use order::BlockCount;
 use order::Slot;
+use order::more;
 use refusal::NOT_LONGER;
 use refusal::SHORT;
 ghost use mathlib.Core.Path.{_≡_};
@@ -61,7 +62,7 @@ fn against(opened: Opened, held: BlockCount, delivered: &[u8], verdicts: &[u8]) 
     match answer {
         Answer::Refused(number, place) => refused(number, place),
         Answer::Good => {
-            if count.0 <= held.0 {
+            if !more(count, held) {
                 return refused(NOT_LONGER, BlockCount(0));
             }
             Judged {

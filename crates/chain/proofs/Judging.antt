@@ -6,9 +6,9 @@ use mathlib.Core.Bool.{true, false}
 use mathlib.Core.List.{List, _∷_}
 use native.Mathlib.Omega.{arith}
 use native.Mathlib.Numerals.{add-one}
+use lib.Dec.{ltb}
 use lib.ListN.{length, take, drop, getD}
 use lib.Seq.{drop-cons, getD-take, length-take-le}
-use borrow.Author.Tests.{le-ltb, lt-ltb}
 use Rattle.laws.specs.Told.{gives, refuses, Found, found, then}
 use Rattle.laws.specs.Every.{same}
 use Rattle.laws.specs.Bytes.{part}
@@ -109,17 +109,17 @@ module _ (way : Way) (clock : ℕ) (chain : List ℕ) (before : Standing) (order
   abbrev block-told : (b : Found Parts) × (blockAt chain (before .length) ≡ gives b) × (b .value .orders ≡ orders) × (b .value .slot ≡ slot) × (b .next ≡ next)
   block-told = read-block chain before orders slot next told
 
-  pub stamp-not-above : slot ≤ before .stamp .0 → judged way clock chain before ≡ refuses 6 0
+  pub stamp-not-above : ltb (before .stamp .0) slot ≡ false → judged way clock chain before ≡ refuses 6 0
   unfolding judged
-  stamp-not-above h = rw (block-told .1, block-told .3, le-ltb (before .stamp .0) slot h)
+  stamp-not-above h = rw (block-told .1, block-told .3, h)
 
-  module _ (above : before .stamp .0 < slot) where
+  module _ (above : ltb (before .stamp .0) slot ≡ true) where
     pub not-admitted : (number place : ℕ) → admitted way clock (before .count .0) slot ≡ refuses number place
         → judged way clock chain before ≡ refuses number place
     unfolding judged
-    not-admitted number place e = rw (block-told .1, block-told .3, lt-ltb (before .stamp .0) slot above, e)
+    not-admitted number place e = rw (block-told .1, block-told .3, above, e)
 
     pub joined-if-admitted : admitted way clock (before .count .0) slot ≡ gives tt
         → judged way clock chain before ≡ then (blockAt chain (before .length)) (joining chain before)
     unfolding judged
-    joined-if-admitted e = rw (block-told .1, block-told .3, lt-ltb (before .stamp .0) slot above, e)
+    joined-if-admitted e = rw (block-told .1, block-told .3, above, e)

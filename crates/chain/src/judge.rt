@@ -6,6 +6,7 @@ use block::Place;
 use order::BlockCount;
 use order::Release;
 use order::Slot;
+use order::earlier;
 use refusal::HELD;
 use refusal::LATE;
 use refusal::LINK;
@@ -47,7 +48,7 @@ pub fn judge(chain: &[u8], verdicts: &[u8], way: Way, clock: Slot, before: Stand
     match place {
         Place::Refused(number) => refused(number, before),
         Place::Next(next) => {
-            if stamp.0 <= before.stamp.0 {
+            if !earlier(before.stamp, stamp) {
                 return refused(STAMP, before);
             }
             match admit(way, verdicts, clock, before.count, stamp) {
@@ -73,7 +74,7 @@ fn admit(way: Way, verdicts: &[u8], clock: Slot, count: BlockCount, stamp: Slot)
 {
     match way {
         Way::Delivered => {
-            if clock.0 <= stamp.0 {
+            if !earlier(stamp, clock) {
                 return Judgement::Refused(LATE);
             }
             if good_verdict(verdicts, count.0 as usize) {
@@ -82,7 +83,7 @@ fn admit(way: Way, verdicts: &[u8], clock: Slot, count: BlockCount, stamp: Slot)
             Judgement::Refused(VERDICT)
         }
         Way::Held => {
-            if clock.0 < stamp.0 {
+            if earlier(clock, stamp) {
                 return Judgement::Refused(HELD);
             }
             Judgement::Good

@@ -7,6 +7,7 @@ use crate::judge::Judgement;
 use crate::judge::judge;
 use order::BlockCount;
 use order::Slot;
+use order::more_slots_ago;
 ghost use mathlib.Core.Path.{_≡_};
 ghost use Prim.Native.Nat.{_≤_};
 ghost use lib.ListN.{length};
@@ -45,7 +46,7 @@ pub fn pass(chain: &[u8], verdicts: &[u8], way: Way, opened: Opened) -> Passed
             Judgement::Good => {}
         }
         whole = judging.after;
-        if whole.stamp.0 as u64 + depth < clock.0 as u64 {
+        if more_slots_ago(whole.stamp, depth, clock) {
             settled = whole;
         }
     }

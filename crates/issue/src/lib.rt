@@ -10,6 +10,7 @@ use number::within;
 use order::BlockCount;
 use order::Order;
 use order::Slot;
+use order::earlier;
 use pool::Pool;
 use refusal::POOL;
 use refusal::STAMP;
@@ -131,7 +132,7 @@ fn behind(
         return no_front(TURN, BlockCount(0));
     }
     let whole = held.whole;
-    if slot.0 <= whole.stamp.0 {
+    if !earlier(whole.stamp, slot) {
         return no_front(STAMP, BlockCount(0));
     }
     let front = next_front(opened, held, pool, signature);

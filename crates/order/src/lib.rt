@@ -1,5 +1,7 @@
 // Orders on the releases of 64 displays (01, "Orders, blocks, chains"), and the two kinds of number that are never mixed.
 ghost use mathlib.Core.Path.{_≡_};
+ghost use Prim.Native.Nat.{_+_};
+ghost use lib.Dec.{ltb};
 ghost use Rattle.order.specs.Order as spec;
 
 // A slot, or a block's slot stamp.
@@ -9,6 +11,36 @@ pub struct Slot(pub u32);
 // A number of blocks.
 #[repr(C)]
 pub struct BlockCount(pub u32);
+
+// The comparisons of the two kinds stand here and nowhere else. Outside this crate no slot and no count is unwrapped to be compared, so that a
+// stamp where a count is meant is an error of types.
+
+// Whether a chain of `count` blocks has more than one of `than`.
+pub fn more(count: BlockCount, than: BlockCount) -> bool
+    ensures { λ r. ⌜ r ≡ ltb (than .0) (count .0) ⌝ }
+{
+    than.0 < count.0
+}
+
+pub fn earlier(slot: Slot, than: Slot) -> bool
+    ensures { λ r. ⌜ r ≡ ltb (slot .0) (than .0) ⌝ }
+{
+    slot.0 < than.0
+}
+
+// Whether a slot lies more than so many slots before the clock's. The difference is taken, since a sum might not fit.
+pub fn more_slots_ago(slot: Slot, slots: u64, clock: Slot) -> bool
+    ensures { λ r. ⌜ r ≡ ltb (slot .0 + slots) (clock .0) ⌝ }
+{
+    slot.0 < clock.0 && slots < (clock.0 - slot.0) as u64
+}
+
+// Whether a slot lies fewer than so many slots before the clock's, or after it.
+pub fn fewer_slots_ago(slot: Slot, slots: u32, clock: Slot) -> bool
+    ensures { λ r. ⌜ r ≡ ltb (clock .0) (slot .0 + slots) ⌝ }
+{
+    (clock.0 as u64) < slot.0 as u64 + slots as u64
+}
 
 pub type Release = u32;
 

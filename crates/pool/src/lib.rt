@@ -2,12 +2,13 @@
 use chain::Answer;
 use chain::Opened;
 use chain::Summary;
-use number::within;
 use order::BlockCount;
 use order::DISPLAYS;
 use order::Order;
 use order::Release;
 use order::Slot;
+use order::earlier;
+use order::fewer_slots_ago;
 use refusal::OFFER;
 use refusal::POOL;
 use refusal::POOL_FULL;
@@ -77,14 +78,14 @@ fn entry_fits(clock: Slot, entry: Entry) -> bool
     if DISPLAYS <= entry.order.display as usize {
         return false;
     }
-    within(1, entry.slot.0, clock.0)
+    earlier(Slot(0), entry.slot) && !earlier(clock, entry.slot)
 }
 
 // Whether an entry still counts.
 fn counts(opened: Opened, held: Summary, entry: Entry) -> bool
     ensures { λ r. ⌜ r ≡ spec.counts opened held entry ⌝ }
 {
-    (opened.clock.0 as u64) < entry.slot.0 as u64 + opened.table.u as u64
+    fewer_slots_ago(entry.slot, opened.table.u, opened.clock)
 }
 
 // The entries that count, in their order.

@@ -1,7 +1,7 @@
 -- `issue::behind` meets its contract.
 -- Assumes nothing.
 use mathlib.Core.Path.{sym, _∙_}
-use borrow.Author.Tests.{not-true, not-false, le-ltb, lt-ltb}
+use borrow.Author.Tests.{not-true, not-false}
 use borrow.Author.Needs.{needs}
 use Rattle.issue.proofs.behind.Statement.{statement}
 use Rattle.issue.proofs.behind.Tie as tie
@@ -27,23 +27,28 @@ returns-2 c =
     let bad = sym (c .before .before .«may-issue» .ensures) ∙ not-true _ (c .before .if2 .taken) in
     c .«no-front2» .ensures ∙ rw (fine, bad)
 
+earlier-requires : tie.Need-earlier-requires
+earlier-requires c κs = search needs
+
 no-front-requires-3 : tie.Need-no-front-requires-3
 no-front-requires-3 c κs = search needs
 
 returns-3 : tie.Need-returns-3
 returns-3 c =
-    let fine = sym (c .before .before .before .before .before .before .before .before .fits2 .ensures) ∙ not-false _ (c .before .before .before .before .before .before .before .if1 .left) in
-    let turn = sym (c .before .before .before .before .before .before .«may-issue» .ensures) ∙ not-false _ (c .before .before .before .before .before .if2 .left) in
-    c .«no-front3» .ensures ∙ rw (fine, turn, le-ltb _ _ (c .before .if3 .taken))
+    let fine = sym (c .before .before .before .before .before .before .before .fits2 .ensures) ∙ not-false _ (c .before .before .before .before .before .before .if1 .left) in
+    let turn = sym (c .before .before .before .before .before .«may-issue» .ensures) ∙ not-false _ (c .before .before .before .before .if2 .left) in
+    let ends-now = sym (c .before .before .earlier .ensures) ∙ not-true _ (c .before .if3 .taken) in
+    c .«no-front3» .ensures ∙ rw (fine, turn, ends-now)
 
 next-front-requires : tie.Need-next-front-requires
 next-front-requires c κs = search needs
 
 returns-4 : tie.Need-returns-4
 returns-4 c =
-    let fine = sym (c .before .before .before .before .before .before .before .before .fits2 .ensures) ∙ not-false _ (c .before .before .before .before .before .before .before .if1 .left) in
-    let turn = sym (c .before .before .before .before .before .before .«may-issue» .ensures) ∙ not-false _ (c .before .before .before .before .before .if2 .left) in
-    rw (c .«next-front» .ensures, fine, turn, lt-ltb _ _ (c .before .if3 .left))
+    let fine = sym (c .before .before .before .before .before .before .before .fits2 .ensures) ∙ not-false _ (c .before .before .before .before .before .before .if1 .left) in
+    let turn = sym (c .before .before .before .before .before .«may-issue» .ensures) ∙ not-false _ (c .before .before .before .before .if2 .left) in
+    let ends-before = sym (c .before .before .earlier .ensures) ∙ not-false _ (c .before .if3 .left) in
+    rw (c .«next-front» .ensures, fine, turn, ends-before)
 
 pub behind-spec : {M : Type 1} → statement M
 behind-spec =
@@ -55,6 +60,7 @@ behind-spec =
     may-issue-requires
     no-front-requires-2
     returns-2
+    earlier-requires
     no-front-requires-3
     returns-3
     next-front-requires

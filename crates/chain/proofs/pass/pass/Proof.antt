@@ -1,14 +1,12 @@
 -- `chain::pass::pass` meets its contract.
 -- Assumes nothing.
-use Prim.Native.Nat.{_<_, _^_, _+_, _-_}
+use Prim.Native.Nat.{_-_}
 use mathlib.Core.Bool.{true, false}
 use mathlib.Core.Path.{_≡_, sym, _∙_, ap, refl}
 use native.Mathlib.Omega.{arith}
 use lib.ListN.{length}
-use borrow.Author.Tests.{lt-ltb, le-ltb}
 use denote.Ref.{now}
 use borrow.Author.Needs.{needs}
-use Rattle.genesis.specs.Genesis.{depth}
 use Rattle.chain.specs.Chain.{settles, judged}
 use Rattle.chain.specs.Answers.{summaryOr, wayOf}
 use Rattle.laws.specs.Told.{gives}
@@ -21,10 +19,6 @@ Inv-loop chain verdicts way opened clock depth whole₀ settled₀ whole settled
 
 abbrev μ-loop : tie.MeasureT-loop
 μ-loop chain verdicts way opened clock depth whole₀ settled₀ whole settled = length chain - whole .length
-
--- the depth of a table is far below what 64 bits hold
-small : (c : tie.Start Inv-loop μ-loop) → c .args .opened .table .t < 2 ^ 32
-small c = c .good .1 .1 .1 .0 .1 .1 .0 .1 .1 .1 .0 .1
 
 -- a block was good
 good : (c : tie.After-enum-told Inv-loop μ-loop)
@@ -66,46 +60,36 @@ returns c =
 enum-told : tie.Need-enum-told Inv-loop μ-loop
 enum-told c = search needs
 
-cast-if2 : tie.Need-cast-if2 Inv-loop μ-loop
-cast-if2 c = search needs
-
-add-if2 : tie.Need-add-if2 Inv-loop μ-loop
-add-if2 c = search (needs, small (c .before .before .before .before .before .before .before .before .before .before .before .before .before), c .before .before .before .before .before .before .before .before .before .depth .ensures)
-
-cast-if2-2 : tie.Need-cast-if2-2 Inv-loop μ-loop
-cast-if2-2 c = search needs
+more-slots-ago-requires : tie.Need-more-slots-ago-requires Inv-loop μ-loop
+more-slots-ago-requires c κs = search needs
 
 loop-less : tie.Need-loop-less Inv-loop μ-loop
 loop-less c =
-    let at = c .before .before .before .before .before .before .before .before .before in
-    let loop = at .loop in
-    let a = c .before .before .before .before .before .before .before .before .before .before .before .before .before .before .before .args in
-    kept-less (a .opened) (wayOf (a .way) (now (a .verdicts))) (now (a .chain)) (loop .whole) (loop .settled) (loop .inv) (c .before .before .before .before .before .before .before .if1 .taken) (c .before .before .before .before .before .before .judge .result .after) (good (c .before .before .before .before))
+    let loop = c .before .before .before .before .before .before .before .before .loop in
+    let a = c .before .before .before .before .before .before .before .before .before .before .before .before .before .before .args in
+    kept-less (a .opened) (wayOf (a .way) (now (a .verdicts))) (now (a .chain)) (loop .whole) (loop .settled) (loop .inv) (c .before .before .before .before .before .before .if1 .taken) (c .before .before .before .before .before .judge .result .after) (good (c .before .before .before))
 
 loop-again : tie.Need-loop-again Inv-loop μ-loop
 loop-again c =
-    let at = c .before .before .before .before .before .before .before .before .before in
-    let loop = at .loop in
-    let a = c .before .before .before .before .before .before .before .before .before .before .before .before .before .before .before .args in
-    let after = c .before .before .before .before .before .before .judge .result .after in
-    let is : settles (a .opened) (after .stamp .0) ≡ true = lt-ltb (after .stamp .0 + depth (a .opened .table)) (a .opened .clock .0) (omega (arith, c .if2 .taken, c .before .before .before .before .before .before .before .before .before .before .before .depth .ensures)) in
-    kept-next (a .opened) (wayOf (a .way) (now (a .verdicts))) (now (a .chain)) (loop .whole) (loop .settled) (loop .inv) (c .before .before .before .before .before .before .before .if1 .taken) after (good (c .before .before .before .before)) _ (rw is)
+    let loop = c .before .before .before .before .before .before .before .before .loop in
+    let a = c .before .before .before .before .before .before .before .before .before .before .before .before .before .before .args in
+    let after = c .before .before .before .before .before .judge .result .after in
+    let is : settles (a .opened) (after .stamp .0) ≡ true = sym (rw (c .before .before .before .before .before .before .before .before .before .before .depth .ensures) at (c .before .«more-slots-ago» .ensures)) ∙ c .if2 .taken in
+    kept-next (a .opened) (wayOf (a .way) (now (a .verdicts))) (now (a .chain)) (loop .whole) (loop .settled) (loop .inv) (c .before .before .before .before .before .before .if1 .taken) after (good (c .before .before .before)) _ (rw is)
 
 loop-less-2 : tie.Need-loop-less-2 Inv-loop μ-loop
 loop-less-2 c =
-    let at = c .before .before .before .before .before .before .before .before .before in
-    let loop = at .loop in
-    let a = c .before .before .before .before .before .before .before .before .before .before .before .before .before .before .before .args in
-    kept-less (a .opened) (wayOf (a .way) (now (a .verdicts))) (now (a .chain)) (loop .whole) (loop .settled) (loop .inv) (c .before .before .before .before .before .before .before .if1 .taken) (c .before .before .before .before .before .before .judge .result .after) (good (c .before .before .before .before))
+    let loop = c .before .before .before .before .before .before .before .before .loop in
+    let a = c .before .before .before .before .before .before .before .before .before .before .before .before .before .before .args in
+    kept-less (a .opened) (wayOf (a .way) (now (a .verdicts))) (now (a .chain)) (loop .whole) (loop .settled) (loop .inv) (c .before .before .before .before .before .before .if1 .taken) (c .before .before .before .before .before .judge .result .after) (good (c .before .before .before))
 
 loop-again-2 : tie.Need-loop-again-2 Inv-loop μ-loop
 loop-again-2 c =
-    let at = c .before .before .before .before .before .before .before .before .before in
-    let loop = at .loop in
-    let a = c .before .before .before .before .before .before .before .before .before .before .before .before .before .before .before .args in
-    let after = c .before .before .before .before .before .before .judge .result .after in
-    let is : settles (a .opened) (after .stamp .0) ≡ false = le-ltb (after .stamp .0 + depth (a .opened .table)) (a .opened .clock .0) (omega (arith, c .if2 .left, c .before .before .before .before .before .before .before .before .before .before .before .depth .ensures)) in
-    kept-next (a .opened) (wayOf (a .way) (now (a .verdicts))) (now (a .chain)) (loop .whole) (loop .settled) (loop .inv) (c .before .before .before .before .before .before .before .if1 .taken) after (good (c .before .before .before .before)) _ (rw is)
+    let loop = c .before .before .before .before .before .before .before .before .loop in
+    let a = c .before .before .before .before .before .before .before .before .before .before .before .before .before .before .args in
+    let after = c .before .before .before .before .before .judge .result .after in
+    let is : settles (a .opened) (after .stamp .0) ≡ false = sym (rw (c .before .before .before .before .before .before .before .before .before .before .depth .ensures) at (c .before .«more-slots-ago» .ensures)) ∙ c .if2 .left in
+    kept-next (a .opened) (wayOf (a .way) (now (a .verdicts))) (now (a .chain)) (loop .whole) (loop .settled) (loop .inv) (c .before .before .before .before .before .before .if1 .taken) after (good (c .before .before .before)) _ (rw is)
 
 returns-2 : tie.Need-returns-2 Inv-loop μ-loop
 returns-2 c =
@@ -129,9 +113,7 @@ pass-spec =
     refused-requires
     returns
     enum-told
-    cast-if2
-    add-if2
-    cast-if2-2
+    more-slots-ago-requires
     loop-less
     loop-again
     loop-less-2
