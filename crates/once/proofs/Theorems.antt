@@ -113,6 +113,14 @@ use Rattle.number.proofs.within.Kinds as number-within-kinds
 use Rattle.number.proofs.within.Reads as number-within
 use Rattle.number.proofs.write.Kinds as number-write-number-kinds
 use Rattle.number.proofs.write.Reads as number-write-number
+use Rattle.order.proofs.earlier.Kinds as order-earlier-kinds
+use Rattle.order.proofs.earlier.Reads as order-earlier
+use Rattle.order.proofs.fewer_slots_ago.Kinds as order-fewer-slots-ago-kinds
+use Rattle.order.proofs.fewer_slots_ago.Reads as order-fewer-slots-ago
+use Rattle.order.proofs.more.Kinds as order-more-kinds
+use Rattle.order.proofs.more.Reads as order-more
+use Rattle.order.proofs.more_slots_ago.Kinds as order-more-slots-ago-kinds
+use Rattle.order.proofs.more_slots_ago.Reads as order-more-slots-ago
 use Rattle.order.proofs.take.Kinds as order-take-an-order-kinds
 use Rattle.order.proofs.take.Reads as order-take-an-order
 use Rattle.order.proofs.valid.Kinds as order-valid-kinds
@@ -181,6 +189,18 @@ pub digest-answers-once : OneAnswer 1 sha256-digest-kinds.ps sha256-digest-kinds
 digest-answers-once κs a x y s t p q = digest-faithful x y (paired (p .0 ∙ sym (q .0)) (p .1 ∙ sym (q .1)))
 
 -- ---- order
+pub more-answers-once : OneAnswer 0 order-more-kinds.ps order-more-kinds.r order-more.Post
+more-answers-once κs a x y s t p q = p ∙ sym q
+
+pub earlier-answers-once : OneAnswer 0 order-earlier-kinds.ps order-earlier-kinds.r order-earlier.Post
+earlier-answers-once κs a x y s t p q = p ∙ sym q
+
+pub more-slots-ago-answers-once : OneAnswer 0 order-more-slots-ago-kinds.ps order-more-slots-ago-kinds.r order-more-slots-ago.Post
+more-slots-ago-answers-once κs a x y s t p q = p ∙ sym q
+
+pub fewer-slots-ago-answers-once : OneAnswer 0 order-fewer-slots-ago-kinds.ps order-fewer-slots-ago-kinds.r order-fewer-slots-ago.Post
+fewer-slots-ago-answers-once κs a x y s t p q = p ∙ sym q
+
 pub valid-answers-once : OneAnswer 1 order-valid-kinds.ps order-valid-kinds.r order-valid.Post
 valid-answers-once κs a x y s t p q = p ∙ sym q
 
