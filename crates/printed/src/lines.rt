@@ -3,7 +3,9 @@ use crate::Asked;
 use crate::decimal;
 use buffer::after;
 use chain::Answer;
+use order::BlockCount;
 use order::Release;
+use order::Slot;
 ghost use Rattle.laws.specs.Placed.{Room, Wrote};
 ghost use Rattle.printed.specs.Station as spec;
 ghost use Rattle.printed.specs.Answers.{toldAsked};
@@ -17,29 +19,29 @@ pub fn put_text(out: &mut [u8], asked: Asked) -> usize
     let answer = report.answer;
     let releases = report.releases;
     match answer {
-        Answer::Refused(number, place) => put_refusal(out, number, place.0),
+        Answer::Refused(number, place) => put_refusal(out, number, place),
         Answer::Good => {
-            let next = put_first(out, asked.clock.0, report.held.0, report.settled.0);
+            let next = put_first(out, asked.clock, report.held, report.settled);
             put_displays(out, next, &releases)
         }
     }
 }
 
-fn put_refusal(out: &mut [u8], number: u32, place: u32) -> usize
-    requires { ⌜ Room (now out) 0 (spec.refusedText number place) ⌝ }
-    ensures { λ r. ⌜ Wrote (now (out .entry)) 0 (spec.refusedText number place) r (now (out .exit)) ⌝ }
+fn put_refusal(out: &mut [u8], number: u32, place: BlockCount) -> usize
+    requires { ⌜ Room (now out) 0 (spec.refusedText number (place .0)) ⌝ }
+    ensures { λ r. ⌜ Wrote (now (out .entry)) 0 (spec.refusedText number (place .0)) r (now (out .exit)) ⌝ }
 {
     let next = after(buffer::put(out, 0, b"refused "), 0);
-    put_two(out, next, number, place)
+    put_two(out, next, number, place.0)
 }
 
-fn put_first(out: &mut [u8], clock: u32, held: u32, settled: u32) -> usize
-    requires { ⌜ Room (now out) 0 (spec.firstLine clock held settled) ⌝ }
-    ensures { λ r. ⌜ Wrote (now (out .entry)) 0 (spec.firstLine clock held settled) r (now (out .exit)) ⌝ }
+fn put_first(out: &mut [u8], clock: Slot, held: BlockCount, settled: BlockCount) -> usize
+    requires { ⌜ Room (now out) 0 (spec.firstLine (clock .0) (held .0) (settled .0)) ⌝ }
+    ensures { λ r. ⌜ Wrote (now (out .entry)) 0 (spec.firstLine (clock .0) (held .0) (settled .0)) r (now (out .exit)) ⌝ }
 {
-    let second = put_word(out, 0, clock, b' ');
-    let third = put_word(out, second, held, b' ');
-    put_word(out, third, settled, b'\n')
+    let second = put_word(out, 0, clock.0, b' ');
+    let third = put_word(out, second, held.0, b' ');
+    put_word(out, third, settled.0, b'\n')
 }
 
 fn put_displays(out: &mut [u8], at: usize, releases: &[Release; 64]) -> usize

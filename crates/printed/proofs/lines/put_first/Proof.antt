@@ -11,15 +11,15 @@ put-word-requires : tie.Need-put-word-requires
 put-word-requires c κs =
     let start = c .before .before in
     let a = start .args in
-    room-first (word (a .clock) 32) (word (a .held) 32 ++ word (a .settled) 10) (start .pre)
+    room-first (word (a .clock .0) 32) (word (a .held .0) 32 ++ word (a .settled .0) 10) (start .pre)
 
 put-word-requires-2 : tie.Need-put-word-requires-2
 put-word-requires-2 c κs =
     let first = c .before .before .before in
     let start = first .before .before .before in
     let a = start .args in
-    room-first (word (a .held) 32) (word (a .settled) 10)
-    (room-then (word (a .clock) 32) (word (a .held) 32 ++ word (a .settled) 10) (first .put-word .ensures) (start .pre))
+    room-first (word (a .held .0) 32) (word (a .settled .0) 10)
+    (room-then (word (a .clock .0) 32) (word (a .held .0) 32 ++ word (a .settled .0) 10) (first .put-word .ensures) (start .pre))
 
 put-word-requires-3 : tie.Need-put-word-requires-3
 put-word-requires-3 c κs =
@@ -27,8 +27,8 @@ put-word-requires-3 c κs =
     let first = second .before .before .before .before in
     let start = first .before .before .before in
     let a = start .args in
-    room-then (word (a .held) 32) (word (a .settled) 10) (second .put-word2 .ensures)
-    (room-then (word (a .clock) 32) (word (a .held) 32 ++ word (a .settled) 10) (first .put-word .ensures) (start .pre))
+    room-then (word (a .held .0) 32) (word (a .settled .0) 10) (second .put-word2 .ensures)
+    (room-then (word (a .clock .0) 32) (word (a .held .0) 32 ++ word (a .settled .0) 10) (first .put-word .ensures) (start .pre))
 
 same-length : tie.Need-same-length
 same-length c = search needs
@@ -39,8 +39,8 @@ returns c =
     let second = third .before .before .before .before in
     let first = second .before .before .before .before in
     let a = first .before .before .before .args in
-    wrote-then (word (a .clock) 32) (word (a .held) 32 ++ word (a .settled) 10) (first .put-word .ensures)
-    (wrote-then (word (a .held) 32) (word (a .settled) 10) (second .put-word2 .ensures) (third .put-word3 .ensures))
+    wrote-then (word (a .clock .0) 32) (word (a .held .0) 32 ++ word (a .settled .0) 10) (first .put-word .ensures)
+    (wrote-then (word (a .held .0) 32) (word (a .settled .0) 10) (second .put-word2 .ensures) (third .put-word3 .ensures))
 
 pub put-first-spec : {M : Type 1} → statement M
 put-first-spec =

@@ -28,12 +28,12 @@ begun c =
     let call = c .before .before .before in
     let start = call .before .before .before .before in
     rw (c .after .ensures)
-    (wrote (room-first letters (twoNumbers (start .args .number) (start .args .place)) (start .pre)) (call .put .ensures .0) (call .put .ensures .1))
+    (wrote (room-first letters (twoNumbers (start .args .number) (start .args .place .0)) (start .pre)) (call .put .ensures .0) (call .put .ensures .1))
 
 put-two-requires : tie.Need-put-two-requires
 put-two-requires c κs =
     let start = c .before .before .before .before .before .before .before .before in
-    room-then letters (twoNumbers (start .args .number) (start .args .place)) (begun (c .before)) (start .pre)
+    room-then letters (twoNumbers (start .args .number) (start .args .place .0)) (begun (c .before)) (start .pre)
 
 same-length : tie.Need-same-length
 same-length c = search needs
@@ -42,7 +42,7 @@ returns : tie.Need-returns
 returns c =
     let call = c .before .before in
     let a = call .before .before .before .before .before .before .before .before .before .args in
-    wrote-then letters (twoNumbers (a .number) (a .place)) (begun (call .before .before)) (call .put-two .ensures)
+    wrote-then letters (twoNumbers (a .number) (a .place .0)) (begun (call .before .before)) (call .put-two .ensures)
 
 pub put-refusal-spec : {M : Type 1} → statement M
 put-refusal-spec =
