@@ -2,6 +2,7 @@
 -- Assumes nothing.
 use mathlib.Core.Path.{_≡_, sym, _∙_}
 use mathlib.Core.Bool.{true}
+use native.Mathlib.Omega.{arith}
 use denote.Ref.{now}
 use borrow.Author.Needs.{needs}
 use Rattle.order.specs.Order.{valid}
@@ -25,7 +26,7 @@ is-valid c = sym (c .before .before .valid .ensures) ∙ c .before .if1 .taken
 element-write-releases : tie.Need-element-write-releases
 element-write-releases c =
     let a = c .before .before .before .before .args in
-    valid-parts (now (a .releases)) (a .order) (is-valid c) .0
+    omega (arith, valid-parts (now (a .releases)) (a .order) (is-valid c) .0)
 
 returns : tie.Need-returns
 returns c = (sym (is-valid c), simp (is-valid c))
