@@ -4,7 +4,7 @@ use Prim.Native.Nat.{ℕ}
 use Rattle.laws.specs.Told.{Told}
 use Rattle.laws.specs.Answers.{Faithful}
 use Rattle.laws.proofs.Answers.{undone}
-use Rattle.chain.proofs.Answers.{answerOf, answer-back}
+use Rattle.refusal.proofs.Answers.{answerOf, answer-back}
 use Rattle.adopt.specs.Answers.{toldJudged, sizeAndCount, toldAdopted}
 use Rattle.adopt.specs.declared.Judged.{Judged}
 use Rattle.adopt.specs.declared.Adopted.{Adopted}

@@ -2,7 +2,7 @@
 -- Assumes nothing.
 use Prim.Native.Nat.{ℕ}
 use Rattle.laws.specs.Told.{Told, givenOr}
-use Rattle.chain.specs.Answers.{toldAnswer}
+use Rattle.refusal.specs.Answers.{toldAnswer}
 use Rattle.adopt.specs.declared.Judged.{Judged}
 use Rattle.adopt.specs.declared.Adopted.{Adopted}
 
@@ -15,6 +15,6 @@ sizeAndCount a = (a .length, a .count .0)
 abbrev pub toldAdopted : Adopted → Told (ℕ × ℕ)
 toldAdopted a = toldAnswer (sizeAndCount a) (a .answer)
 
--- a refusal leaves zeros beside it
-abbrev pub sizeAndCountOr : Told (ℕ × ℕ) → ℕ × ℕ
-sizeAndCountOr t = givenOr (0, 0) t
+-- a refusal leaves the length that was held before, and no count
+abbrev pub sizeAndCountOr : ℕ → Told (ℕ × ℕ) → ℕ × ℕ
+sizeAndCountOr before t = givenOr (before, 0) t

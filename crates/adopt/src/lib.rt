@@ -1,12 +1,12 @@
 // The rule that decides between two chains (01, "Adopt"): more blocks, and nothing else. Block counts alone are compared, never stamps.
 use buffer::Writing;
-use chain::Answer;
 use chain::Opened;
 use order::BlockCount;
 use order::Slot;
 use order::more;
+use refusal::Answer;
 use refusal::NOT_LONGER;
-use refusal::SHORT;
+use refusal::SHORT_BUFFER;
 ghost use mathlib.Core.Path.{_≡_};
 ghost use Rattle.laws.specs.Told.{refuses, givenOr, numberOf, placeOf};
 ghost use Rattle.chain.specs.Chain as chain;
@@ -19,7 +19,7 @@ pub struct Judged {
     pub count: BlockCount,
 }
 
-// What adoption answers: the held chain's new length and block count, zeros where it was refused.
+// What adoption answers: the held chain's length from then on, which a refusal leaves as it was, and the adopted chain's block count, 0 where there is none.
 pub struct Adopted {
     pub answer: Answer,
     pub length: usize,
@@ -127,7 +127,7 @@ pub fn adopt(
     ensures answer { λ r. ⌜ toldAdopted r ≡ spec.adopted
         (spec.accepted (now (genesis .entry)) (clock .0) (now (held .entry)) length (now (delivered .entry)) (now (verdicts .entry)))
         (now (held .entry)) (now (delivered .entry)) ⌝ }
-    ensures values { λ r. ⌜ sizeAndCount r ≡ sizeAndCountOr (spec.adopted
+    ensures values { λ r. ⌜ sizeAndCount r ≡ sizeAndCountOr length (spec.adopted
         (spec.accepted (now (genesis .entry)) (clock .0) (now (held .entry)) length (now (delivered .entry)) (now (verdicts .entry)))
         (now (held .entry)) (now (delivered .entry))) ⌝ }
     ensures held { λ _. ⌜ now (held .exit) ≡ spec.adopting
@@ -138,9 +138,9 @@ pub fn adopt(
     let answer = judged.answer;
     let count = judged.count;
     match answer {
-        Answer::Refused(number, place) => kept(number, place),
+        Answer::Refused(number, place) => kept(number, place, length),
         Answer::Good => match buffer::put(held, 0, delivered) {
-            Writing::Short => kept(SHORT, BlockCount(0)),
+            Writing::Short => kept(SHORT_BUFFER, BlockCount(0), length),
             Writing::Next(length) => Adopted {
                 answer: Answer::Good,
                 length,
@@ -150,12 +150,12 @@ pub fn adopt(
     }
 }
 
-fn kept(number: u32, place: BlockCount) -> Adopted
-    ensures { λ r. ⌜ (toldAdopted r ≡ refuses number (place .0)) × (sizeAndCount r ≡ (0, 0)) ⌝ }
+fn kept(number: u32, place: BlockCount, length: usize) -> Adopted
+    ensures { λ r. ⌜ (toldAdopted r ≡ refuses number (place .0)) × (sizeAndCount r ≡ (length, 0)) ⌝ }
 {
     Adopted {
         answer: Answer::Refused(number, place),
-        length: 0,
+        length,
         count: BlockCount(0),
     }
 }

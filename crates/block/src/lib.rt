@@ -4,10 +4,10 @@ mod writing;
 
 use order::Slot;
 pub use reading::Body;
-use reading::LINK;
+use reading::LINK_BYTES;
 pub use reading::Orders;
 pub use reading::Place;
-use reading::SIGNATURE;
+use reading::SIGNATURE_BYTES;
 pub use reading::read_body;
 pub use writing::length;
 pub use writing::slot_text;
@@ -54,8 +54,8 @@ pub fn read(s: &[u8], at: usize) -> BlockRead
         Place::Refused(number) => refused_block(number),
         Place::Next(next) => {
             let link = link_at(s, at);
-            let slot_signature = signature_at(s, next - 2 * SIGNATURE);
-            let block_signature = signature_at(s, next - SIGNATURE);
+            let slot_signature = signature_at(s, next - 2 * SIGNATURE_BYTES);
+            let block_signature = signature_at(s, next - SIGNATURE_BYTES);
             BlockRead {
                 place: Place::Next(next),
                 block: Block {
@@ -77,7 +77,7 @@ fn link_at(s: &[u8], at: usize) -> [u8; 32]
     ensures { λ r. ⌜ r ≡ part (now (s .entry)) at 32 ⌝ }
 {
     let mut link = [0u8; 32];
-    buffer::put(&mut link, 0, &s[at..at + LINK]);
+    buffer::put(&mut link, 0, &s[at..at + LINK_BYTES]);
     link
 }
 
@@ -86,7 +86,7 @@ fn signature_at(s: &[u8], at: usize) -> [u8; 64]
     ensures { λ r. ⌜ r ≡ part (now (s .entry)) at 64 ⌝ }
 {
     let mut signature = [0u8; 64];
-    buffer::put(&mut signature, 0, &s[at..at + SIGNATURE]);
+    buffer::put(&mut signature, 0, &s[at..at + SIGNATURE_BYTES]);
     signature
 }
 

@@ -5,9 +5,9 @@ use number::within;
 use order::LAST_DISPLAY;
 use order::Order;
 use order::Slot;
-use refusal::BADLY;
+use refusal::BAD_NUMBER;
 use refusal::CUT;
-use refusal::RANGE;
+use refusal::OUT_OF_RANGE;
 ghost use mathlib.Core.Path.{_≡_};
 ghost use mathlib.Core.List.{[]};
 ghost use Prim.Native.Nat.{_≤_};
@@ -18,9 +18,9 @@ ghost use Rattle.block.specs.Block.{numberIn, orderAt, ordersAt};
 ghost use Rattle.block.specs.Answers.{toldNumber, toldOrder, toldOrders, ordersOf, listed, unlisted, toldBody, partsOf, bodyOr, partsOr, noBody};
 ghost use Rattle.block.specs.Steps.{bodyAt, stampAt};
 
-pub const LINK: usize = 32;
+pub const LINK_BYTES: usize = 32;
 
-pub const SIGNATURE: usize = 64;
+pub const SIGNATURE_BYTES: usize = 64;
 
 // A number and the place after it.
 pub enum NumberRead {
@@ -34,7 +34,7 @@ fn read_number(s: &[u8], at: usize) -> NumberRead
     match number::read(s, at) {
         Reading::Value(value, next) => NumberRead::Value(value, next),
         Reading::Cut => NumberRead::Refused(CUT),
-        Reading::Badly => NumberRead::Refused(BADLY),
+        Reading::Badly => NumberRead::Refused(BAD_NUMBER),
     }
 }
 
@@ -47,7 +47,7 @@ fn read_number_in(s: &[u8], at: usize, least: u32, most: u32) -> NumberRead
             if within(least, value, most) {
                 NumberRead::Value(value, next)
             } else {
-                NumberRead::Refused(RANGE)
+                NumberRead::Refused(OUT_OF_RANGE)
             }
         }
     }
@@ -173,10 +173,10 @@ pub fn read_body(s: &[u8], at: usize) -> Body
     ensures answer { λ r. ⌜ toldBody r ≡ bodyAt (now (s .entry)) at ⌝ }
     ensures body { λ r. ⌜ partsOf r ≡ bodyOr (bodyAt (now (s .entry)) at) ⌝ }
 {
-    if !fits(s.len(), at, LINK) {
+    if !fits(s.len(), at, LINK_BYTES) {
         return refused_body(CUT);
     }
-    let read = read_orders(s, at + LINK);
+    let read = read_orders(s, at + LINK_BYTES);
     let place = read.place;
     let orders = read.orders;
     match place {
@@ -193,9 +193,9 @@ fn read_stamp(s: &[u8], at: usize, orders: Orders) -> Body
     match read_number_in(s, at, 1, 256) {
         NumberRead::Refused(number) => refused_body(number),
         NumberRead::Value(slot, at) => {
-            if fits(s.len(), at, 2 * SIGNATURE) {
+            if fits(s.len(), at, 2 * SIGNATURE_BYTES) {
                 Body {
-                    place: Place::Next(at + 2 * SIGNATURE),
+                    place: Place::Next(at + 2 * SIGNATURE_BYTES),
                     orders,
                     slot: Slot(slot),
                 }

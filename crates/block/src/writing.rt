@@ -1,19 +1,19 @@
 // A block written from its parts (01: "5, then 15"), and the slot text ("2, then 15").
 use crate::Block;
 use crate::Front;
-use crate::reading::LINK;
+use crate::reading::LINK_BYTES;
 use crate::reading::Orders;
 use crate::reading::Place;
-use crate::reading::SIGNATURE;
+use crate::reading::SIGNATURE_BYTES;
 use buffer::after;
 use buffer::fits;
 use number::within;
 use order::LAST_DISPLAY;
 use order::Order;
 use order::Slot;
-use refusal::CLOCK;
-use refusal::RANGE;
-use refusal::SHORT;
+use refusal::BAD_CLOCK;
+use refusal::OUT_OF_RANGE;
+use refusal::SHORT_BUFFER;
 ghost use mathlib.Core.Path.{_≡_};
 ghost use Prim.Native.Nat.{_+_, _≤_};
 ghost use lib.ListN.{length};
@@ -33,10 +33,10 @@ pub fn write(out: &mut [u8], at: usize, block: Block) -> Place
     let front = block.front;
     let signature = block.block_signature;
     if !in_range(front.orders, front.slot) {
-        return Place::Refused(RANGE);
+        return Place::Refused(OUT_OF_RANGE);
     }
-    if !fits(out.len(), at, front_length(front) + SIGNATURE) {
-        return Place::Refused(SHORT);
+    if !fits(out.len(), at, front_length(front) + SIGNATURE_BYTES) {
+        return Place::Refused(SHORT_BUFFER);
     }
     let next = put_front(out, at, front);
     Place::Next(put_bytes(out, next, &signature))
@@ -48,10 +48,10 @@ pub fn write_front(out: &mut [u8], at: usize, front: Front) -> Place
     ensures buffer { λ _. ⌜ now (out .exit) ≡ placingIf (frontFits front) (now (out .entry)) at (frontOf front) ⌝ }
 {
     if !in_range(front.orders, front.slot) {
-        return Place::Refused(RANGE);
+        return Place::Refused(OUT_OF_RANGE);
     }
     if !fits(out.len(), at, front_length(front)) {
-        return Place::Refused(SHORT);
+        return Place::Refused(SHORT_BUFFER);
     }
     Place::Next(put_front(out, at, front))
 }
@@ -62,11 +62,11 @@ pub fn slot_text(out: &mut [u8], slot: Slot) -> Place
     ensures buffer { λ _. ⌜ now (out .exit) ≡ placingIf (spec.within 1 256 (slot .0)) (now (out .entry)) 0 (slotText (slot .0)) ⌝ }
 {
     if !within(1, slot.0, 256) {
-        return Place::Refused(CLOCK);
+        return Place::Refused(BAD_CLOCK);
     }
     let letters = b"slot";
     if !fits(out.len(), 0, letters.len() + number::length(slot.0)) {
-        return Place::Refused(SHORT);
+        return Place::Refused(SHORT_BUFFER);
     }
     let next = put_bytes(out, 0, letters);
     Place::Next(put_number(out, next, slot.0))
@@ -77,7 +77,7 @@ pub fn length(orders: Orders, slot: Slot) -> usize
     ensures { λ r. ⌜ r ≡ pick (inRange orders (slot .0)) (blockLength (unlisted orders) (slot .0)) 0 ⌝ }
 {
     if in_range(orders, slot) {
-        LINK + orders_length(orders) + number::length(slot.0) + 2 * SIGNATURE
+        LINK_BYTES + orders_length(orders) + number::length(slot.0) + 2 * SIGNATURE_BYTES
     } else {
         0
     }
@@ -117,7 +117,7 @@ fn front_length(front: Front) -> usize
     requires { ⌜ front .orders .count ≤ 8 ⌝ }
     ensures { λ r. ⌜ (r ≡ length (frontOf front)) × (r ≤ 226) ⌝ }
 {
-    LINK + orders_length(front.orders) + number::length(front.slot.0) + SIGNATURE
+    LINK_BYTES + orders_length(front.orders) + number::length(front.slot.0) + SIGNATURE_BYTES
 }
 
 fn orders_length(orders: Orders) -> usize

@@ -1,30 +1,18 @@
 -- What is told of the answers loses nothing.
 -- Assumes nothing.
 use Prim.Native.Nat.{ℕ}
-use mathlib.Core.Path.{_≡_, refl}
 use mathlib.Core.List.{List}
-use Rattle.laws.specs.Told.{Told, gives, refuses}
+use Rattle.laws.specs.Told.{Told}
 use Rattle.laws.specs.Answers.{Faithful}
 use Rattle.laws.proofs.Answers.{undone}
-use Rattle.chain.specs.Answers.{toldAnswer, toldOpening, toldPassed, toldHolding, toldChecked, endOf}
+use Rattle.refusal.proofs.Answers.{answerOf, answer-back}
+use Rattle.chain.specs.Answers.{toldOpening, toldPassed, toldHolding, toldChecked, endOf}
 use Rattle.chain.specs.declared.Opened.{Opened}
 use Rattle.chain.specs.declared.Opening.{Opening}
 use Rattle.chain.specs.declared.Summary.{Summary}
 use Rattle.chain.specs.declared.Holding.{Holding}
 use Rattle.chain.specs.declared.Checked.{Checked}
-use Rattle.chain.specs.declared.pass.Answer.{Answer}
-use Rattle.chain.specs.declared.pass.Answer.the-variants.{Good, Refused}
 use Rattle.chain.specs.declared.pass.Passed.{Passed}
-
--- an answer, from what is told with it
-pub answerOf : {A : Type 0} → Told A → Answer
-answerOf (gives a) = Good
-answerOf (refuses number place) = Refused number (record { 0 = place })
-
-pub answer-back : {A : Type 0} (a : A) (x : Answer) → answerOf (toldAnswer a x) ≡ x
-unfolding answerOf
-answer-back a Good = refl
-answer-back a (Refused number place) = refl
 
 -- what each contract fixes: what is told, and what stands beside it
 abbrev fixedOpening : Opening → Told Opened × Opened

@@ -9,11 +9,12 @@ use borrow.Author.Tests.{le-leb, lt-leb}
 use Rattle.laws.specs.Told.{Told, gives, refuses}
 use Rattle.laws.proofs.Every.{both-false}
 use Rattle.chain.specs.Chain.{longest, delivered, held, passed, begun, deliveredChain, bad, heldChain, with}
-use Rattle.chain.specs.Answers.{toldAnswer, summaryOr, heldOr}
-use Rattle.chain.specs.declared.pass.Answer.{Answer}
+use Rattle.refusal.specs.Answers.{toldAnswer}
+use Rattle.chain.specs.Answers.{summaryOr, heldOr}
+use Rattle.refusal.specs.declared.Answer.{Answer}
 use Rattle.chain.specs.declared.Opened.{Opened}
 use Rattle.chain.specs.declared.Summary.{Summary}
-use Rattle.chain.specs.declared.pass.Answer.the-variants as answer
+use Rattle.refusal.specs.declared.Answer.the-variants as answer
 
 module _ (o : Opened) (chain verdicts : List ℕ) where
   pub delivered-too-long : longest < length chain → deliveredChain o chain verdicts ≡ refuses 16 0

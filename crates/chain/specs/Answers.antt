@@ -6,6 +6,7 @@ use mathlib.Core.List.{List}
 use lib.ListN.{replicate}
 use Rattle.laws.specs.Pick.{pick}
 use Rattle.laws.specs.Told.{Told, gives, refuses, givenOr}
+use Rattle.refusal.specs.Answers.{toldAnswer}
 use Rattle.chain.specs.Chain as chain
 use Rattle.chain.specs.declared.Standing.{Standing}
 use Rattle.chain.specs.declared.Way.{Way}
@@ -19,8 +20,6 @@ use Rattle.chain.specs.declared.Opening.{Opening}
 use Rattle.chain.specs.declared.Holding.{Holding}
 use Rattle.chain.specs.declared.Checked.{Checked}
 use Rattle.genesis.specs.Answers.{noTable}
-use Rattle.chain.specs.declared.pass.Answer.{Answer}
-use Rattle.chain.specs.declared.pass.Answer.the-variants as answer
 use Rattle.chain.specs.declared.pass.Passed.{Passed}
 
 abbrev pub wayOf : Way → List ℕ → chain.Way
@@ -37,10 +36,6 @@ toldJudging j = toldWith (j .after) (j .judgement)
 -- whether orders were all obeyed, and the releases then
 abbrev pub toldObeyed : Bool → List ℕ → Told (List ℕ)
 toldObeyed all releases = pick all (gives releases) (refuses 10 0)
-
-abbrev pub toldAnswer : {A : Type 0} → A → Answer → Told A
-toldAnswer a answer.Good = gives a
-toldAnswer a (answer.Refused number place) = refuses number (place .0)
 
 abbrev pub toldPassed : Passed → Told Summary
 toldPassed p = toldAnswer (p .summary) (p .answer)

@@ -7,12 +7,12 @@ use order::BlockCount;
 use order::Release;
 use order::Slot;
 use order::earlier;
-use refusal::HELD;
-use refusal::LATE;
-use refusal::LINK;
-use refusal::ORDER;
-use refusal::STAMP;
-use refusal::VERDICT;
+use refusal::BAD_HELD;
+use refusal::BAD_LINK;
+use refusal::BAD_ORDER;
+use refusal::BAD_STAMP;
+use refusal::BAD_VERDICT;
+use refusal::LATE_STAMP;
 ghost use mathlib.Core.Path.{_≡_};
 ghost use Prim.Native.Nat.{_+_, _<_, _≤_};
 ghost use lib.Dec.{eqb};
@@ -49,7 +49,7 @@ pub fn judge(chain: &[u8], verdicts: &[u8], way: Way, clock: Slot, before: Stand
         Place::Refused(number) => refused(number, before),
         Place::Next(next) => {
             if !earlier(before.stamp, stamp) {
-                return refused(STAMP, before);
+                return refused(BAD_STAMP, before);
             }
             match admit(way, verdicts, clock, before.count, stamp) {
                 Judgement::Refused(number) => refused(number, before),
@@ -75,16 +75,16 @@ fn admit(way: Way, verdicts: &[u8], clock: Slot, count: BlockCount, stamp: Slot)
     match way {
         Way::Delivered => {
             if !earlier(stamp, clock) {
-                return Judgement::Refused(LATE);
+                return Judgement::Refused(LATE_STAMP);
             }
             if good_verdict(verdicts, count.0 as usize) {
                 return Judgement::Good;
             }
-            Judgement::Refused(VERDICT)
+            Judgement::Refused(BAD_VERDICT)
         }
         Way::Held => {
             if earlier(clock, stamp) {
-                return Judgement::Refused(HELD);
+                return Judgement::Refused(BAD_HELD);
             }
             Judgement::Good
         }
@@ -109,11 +109,11 @@ fn join(chain: &[u8], before: Standing, orders: Orders, stamp: Slot, next: usize
     let at = before.length;
     let link = before.link;
     if !linked(chain, at, link) {
-        return refused(LINK, before);
+        return refused(BAD_LINK, before);
     }
     let mut releases = before.releases;
     if !obey(&mut releases, orders) {
-        return refused(ORDER, before);
+        return refused(BAD_ORDER, before);
     }
     let link = sha256::digest(&chain[at..next]).bytes;
     Judging {

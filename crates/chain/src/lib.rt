@@ -6,14 +6,14 @@ use genesis::Genesis;
 use order::BlockCount;
 use order::Release;
 use order::Slot;
-pub use pass::Answer;
 pub use pass::Passed;
 use pass::pass;
 use pass::refused;
-use refusal::CLOCK;
-use refusal::GENESIS;
-use refusal::HELD;
-use refusal::LONG;
+use refusal::Answer;
+use refusal::BAD_CLOCK;
+use refusal::BAD_GENESIS;
+use refusal::BAD_HELD;
+use refusal::TOO_LONG;
 ghost use mathlib.Core.Path.{_≡_};
 ghost use Rattle.laws.specs.Told.{refuses};
 ghost use Rattle.chain.specs.Chain as spec;
@@ -83,10 +83,10 @@ pub fn open(genesis: &[u8], clock: Slot) -> Opening
     let answer = read.answer;
     let table = read.table;
     match answer {
-        genesis::Answer::Refused => closed(GENESIS),
+        genesis::Answer::Refused => closed(BAD_GENESIS),
         genesis::Answer::Read => {
             if !genesis::clock_fits(table, clock) {
-                return closed(CLOCK);
+                return closed(BAD_CLOCK);
             }
             let link = sha256::digest(genesis).bytes;
             Opening {
@@ -117,7 +117,7 @@ pub fn delivered(opened: Opened, chain: &[u8], verdicts: &[u8]) -> Passed
     ensures summary { λ r. ⌜ r .summary ≡ summaryOr opened (spec.deliveredChain opened (now (chain .entry)) (now (verdicts .entry))) ⌝ }
 {
     if LONGEST < chain.len() {
-        return refused(opened, LONG, BlockCount(0));
+        return refused(opened, TOO_LONG, BlockCount(0));
     }
     pass(chain, verdicts, Way::Delivered, opened)
 }
@@ -128,10 +128,10 @@ pub fn held(opened: Opened, buffer: &[u8], length: usize) -> Passed
     ensures summary { λ r. ⌜ r .summary ≡ summaryOr opened (spec.heldChain opened (now (buffer .entry)) length) ⌝ }
 {
     if buffer.len() < length {
-        return refused(opened, HELD, BlockCount(0));
+        return refused(opened, BAD_HELD, BlockCount(0));
     }
     if LONGEST < length {
-        return refused(opened, HELD, BlockCount(0));
+        return refused(opened, BAD_HELD, BlockCount(0));
     }
     let chain = &buffer[..length];
     // no verdict is looked at on this way
@@ -150,7 +150,7 @@ fn bad(passed: Passed) -> Passed
             summary,
         },
         Answer::Refused(_, place) => Passed {
-            answer: Answer::Refused(HELD, place),
+            answer: Answer::Refused(BAD_HELD, place),
             summary,
         },
     }

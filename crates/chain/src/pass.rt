@@ -8,18 +8,13 @@ use crate::judge::judge;
 use order::BlockCount;
 use order::Slot;
 use order::more_slots_ago;
+use refusal::Answer;
 ghost use mathlib.Core.Path.{_≡_};
 ghost use Prim.Native.Nat.{_≤_};
 ghost use lib.ListN.{length};
 ghost use Rattle.laws.specs.Told.{refuses};
 ghost use Rattle.chain.specs.Chain as spec;
 ghost use Rattle.chain.specs.Answers.{wayOf, toldPassed, summaryOr};
-
-pub enum Answer {
-    Good,
-    // the number, and the block's place, counted from 1
-    Refused(u32, BlockCount),
-}
 
 // The summary is that of the chain of no blocks where the chain was refused.
 pub struct Passed {

@@ -10,7 +10,7 @@ use Rattle.laws.specs.Pick.{pick}
 use Rattle.laws.specs.Told.{Told, gives, refuses, Found}
 use Rattle.laws.specs.Tabulate.{tabulate}
 use Rattle.number.specs.Number.{written, numberAt}
-use Rattle.genesis.specs.Genesis.{turn}
+use Rattle.genesis.specs.Genesis.{turn, tableWith}
 use Rattle.genesis.specs.declared.Genesis.{Genesis}
 use Rattle.chain.specs.Chain.{settles}
 use Rattle.chain.specs.declared.Opened.{Opened}
@@ -25,7 +25,7 @@ pub data Case : Type 0 where
 
 -- a table of n controllers of which t are faulty: its other parts play no role here
 abbrev pub table : ℕ → ℕ → Genesis
-table n t = record { n = n; t = t; u = 1; releases = replicate 64 0; keys = 0 }
+table n t = tableWith n t 1 (replicate 64 0) 0
 
 abbrev pub opened : ℕ → ℕ → ℕ → Opened
 opened n t clock = record { table = table n t; link = replicate 32 0; clock = record { 0 = clock } }

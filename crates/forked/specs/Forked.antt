@@ -9,6 +9,7 @@ use lib.Dec.{leb, eqb}
 use lib.ListN.{replicate}
 use Rattle.laws.specs.Pick.{pick}
 use Rattle.order.specs.declared.Order.{Order}
+use Rattle.genesis.specs.Genesis.{tableWith}
 use Rattle.genesis.specs.declared.Genesis.{Genesis}
 use Rattle.block.specs.Block.{Parts, blockBytes}
 use Rattle.chain.specs.Chain.{longest, linkOf}
@@ -23,7 +24,7 @@ genesis =
     ++ (replicate 64 0 ++ (replicate 32 1 ++ (replicate 32 2 ++ (replicate 32 3 ++ (replicate 32 4 ++ (replicate 32 5 ++ replicate 32 6))))))
 
 abbrev pub table : Genesis
-table = record { n = 6; t = 1; u = 1; releases = replicate 64 0; keys = 67 }
+table = tableWith 6 1 1 (replicate 64 0) 67
 
 -- the signatures that stand in every block of the run; nothing looks into them
 unfoldable pub signature : List ℕ

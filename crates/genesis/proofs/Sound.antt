@@ -24,7 +24,7 @@ pub record Sound (s : List ℕ) (g : Genesis) : Type 0 where
   pub kept : 1 ≤ g .u
   pub dropped : g .u ≤ 64
   pub displays : length (g .releases) ≡ 64
-  pub whole : g .keys + 32 * g .n ≡ length s
+  pub whole : g .«keys_at» + 32 * g .n ≡ length s
 
 pub sound : (s : List ℕ) (g : Genesis) → genesisOf s ≡ gives g → Sound s g
 unfolding genesisOf

@@ -4,7 +4,7 @@ use Prim.Native.Nat.{ℕ}
 use mathlib.Core.List.{List}
 use lib.ListN.{replicate}
 use Rattle.laws.specs.Told.{Told, gives, refuses, Found, found, givenOr}
-use Rattle.genesis.specs.Genesis.{genesisOf}
+use Rattle.genesis.specs.Genesis.{genesisOf, tableWith}
 use Rattle.genesis.specs.declared.Genesis.{Genesis}
 use Rattle.genesis.specs.declared.Answer.{Answer}
 use Rattle.genesis.specs.declared.Answer.the-variants.{Read, Refused}
@@ -27,7 +27,7 @@ told r = toldWith (r .table) (r .answer)
 
 -- a refused table is all zeros
 abbrev pub noTable : Genesis
-noTable = record { n = 0; t = 0; u = 0; releases = replicate 64 0; keys = 0 }
+noTable = tableWith 0 0 0 (replicate 64 0) 0
 
 abbrev pub tableOr : Told Genesis → Genesis
 tableOr t = givenOr noTable t

@@ -28,10 +28,14 @@ rules h = both (within 1 31 (h .n)) (both (leb (5 * h .t + 1) (h .n)) (within 1 
 abbrev pub ended : List ℕ → ℕ → Bool
 ended s place = eqb place (length s)
 
+-- a table by its parts, the last one where the keys begin in the bytes
+abbrev pub tableWith : (n t u : ℕ) (releases : List ℕ) (keys : ℕ) → Genesis
+tableWith n t u releases keys = record { n = n; t = t; u = u; releases = releases; «keys_at» = keys }
+
 abbrev pub tableAt : List ℕ → Head → Found (List ℕ) → Told Genesis
 tableAt s h releases =
     unless (both (rules h) (ended s (releases .next + 32 * h .n))) 1 0
-    (gives (record { n = h .n; t = h .t; u = h .u; releases = releases .value; keys = releases .next }))
+    (gives (tableWith (h .n) (h .t) (h .u) (releases .value) (releases .next)))
 
 -- every fault of a genesis is refusal 1
 abbrev pub faulty : {A : Type 0} → Told A → Told A
@@ -56,4 +60,4 @@ depth g = 3 * g .t + 1
 -- the place of a controller's key in the bytes: 1, then 12
 abbrev pub keyAt : List ℕ → ℕ → Told ℕ
 keyAt s controller =
-    then (genesisOf s) λ g. unless (within 1 (g .n) controller) 12 0 (gives (g .keys + 32 * (controller - 1)))
+    then (genesisOf s) λ g. unless (within 1 (g .n) controller) 12 0 (gives (g .«keys_at» + 32 * (controller - 1)))

@@ -5,8 +5,8 @@ use number::within;
 use order::DISPLAYS;
 use order::Release;
 use order::Slot;
-use refusal::GENESIS;
-use refusal::TURN;
+use refusal::BAD_GENESIS;
+use refusal::WRONG_CONTROLLER;
 ghost use mathlib.Core.Path.{_≡_};
 ghost use Prim.Native.Nat.{_+_, _*_};
 ghost use Rattle.laws.specs.Told.{refuses};
@@ -15,16 +15,16 @@ ghost use Rattle.number.specs.Number.{numberAt};
 ghost use Rattle.genesis.specs.Genesis as spec;
 ghost use Rattle.genesis.specs.Answers.{told, noTable, tableOr, tableOf, toldHead, toldReleases, toldKey};
 
-pub const KEY: usize = 32;
+pub const KEY_BYTES: usize = 32;
 
-// The table. `keys` is the place of the first key in its bytes.
+// The table. `keys_at` is the place of the first key in its bytes.
 #[repr(C)]
 pub struct Genesis {
     pub n: u32,
     pub t: u32,
     pub u: u32,
     pub releases: [Release; 64],
-    pub keys: usize,
+    pub keys_at: usize,
 }
 
 pub enum Answer {
@@ -134,7 +134,7 @@ fn checked(bytes: &[u8], head: Head, releases: [Release; 64], keys: usize) -> Ta
             t: head.t,
             u: head.u,
             releases,
-            keys,
+            keys_at: keys,
         },
     }
 }
@@ -155,7 +155,7 @@ fn rules(head: Head) -> bool
 fn keys_end(bytes: &[u8], keys: usize, n: u32) -> bool
     ensures { λ r. ⌜ r ≡ spec.ended (now (bytes .entry)) (keys + 32 * n) ⌝ }
 {
-    keys <= bytes.len() && bytes.len() - keys == KEY * n as usize
+    keys <= bytes.len() && bytes.len() - keys == KEY_BYTES * n as usize
 }
 
 fn refused() -> Table
@@ -177,7 +177,7 @@ pub fn none() -> Genesis
         t: 0,
         u: 0,
         releases: [0u32; 64],
-        keys: 0,
+        keys_at: 0,
     }
 }
 
@@ -221,12 +221,12 @@ pub fn find_key(bytes: &[u8], controller: u32) -> KeyPlace
     let answer = read.answer;
     let table = read.table;
     match answer {
-        Answer::Refused => KeyPlace::Refused(GENESIS),
+        Answer::Refused => KeyPlace::Refused(BAD_GENESIS),
         Answer::Read => {
             if within(1, controller, table.n) {
-                KeyPlace::At(table.keys + KEY * (controller as usize - 1))
+                KeyPlace::At(table.keys_at + KEY_BYTES * (controller as usize - 1))
             } else {
-                KeyPlace::Refused(TURN)
+                KeyPlace::Refused(WRONG_CONTROLLER)
             }
         }
     }

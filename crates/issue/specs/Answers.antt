@@ -3,7 +3,7 @@
 use Prim.Native.Nat.{ℕ}
 use Rattle.laws.specs.Told.{Told}
 use Rattle.block.specs.declared.Front.{Front}
-use Rattle.chain.specs.Answers.{toldAnswer}
+use Rattle.refusal.specs.Answers.{toldAnswer}
 use Rattle.issue.specs.declared.Fronted.{Fronted}
 use Rattle.issue.specs.declared.Issued.{Issued}
 

@@ -3,7 +3,6 @@ use block::Block;
 use block::Front;
 use block::Orders;
 use block::Place;
-use chain::Answer;
 use chain::Opened;
 use chain::Summary;
 use number::within;
@@ -12,9 +11,10 @@ use order::Order;
 use order::Slot;
 use order::earlier;
 use pool::Pool;
-use refusal::POOL;
-use refusal::STAMP;
-use refusal::TURN;
+use refusal::Answer;
+use refusal::BAD_POOL;
+use refusal::BAD_STAMP;
+use refusal::WRONG_CONTROLLER;
 ghost use mathlib.Core.Path.{_≡_};
 ghost use mathlib.Core.Bool.{true};
 ghost use lib.ListN.{take};
@@ -33,7 +33,8 @@ pub struct Fronted {
     pub front: Front,
 }
 
-// What issuing answers: how many bytes were written, or the new length of the held chain; 0 where it was refused.
+// What issuing answers: how many bytes were written, 0 where it was refused; of append the held chain's length from then on, which a refusal
+// leaves as it was.
 pub struct Issued {
     pub answer: Answer,
     pub length: usize,
@@ -126,14 +127,14 @@ fn behind(
 {
     let slot = opened.clock;
     if !pool::fits(slot, pool) {
-        return no_front(POOL, BlockCount(0));
+        return no_front(BAD_POOL, BlockCount(0));
     }
     if !may_issue(opened, controller) {
-        return no_front(TURN, BlockCount(0));
+        return no_front(WRONG_CONTROLLER, BlockCount(0));
     }
     let whole = held.whole;
     if !earlier(whole.stamp, slot) {
-        return no_front(STAMP, BlockCount(0));
+        return no_front(BAD_STAMP, BlockCount(0));
     }
     let front = next_front(opened, held, pool, signature);
     Fronted {
@@ -176,8 +177,8 @@ pub fn draft(
     let answer = fronted.answer;
     let front = fronted.front;
     match answer {
-        Answer::Refused(number, place) => refused(number, place),
-        Answer::Good => told(block::write_front(out, 0, front)),
+        Answer::Refused(number, place) => refused(number, place, 0),
+        Answer::Good => told(block::write_front(out, 0, front), 0),
     }
 }
 
@@ -195,7 +196,7 @@ pub fn append(
     ensures answer { λ r. ⌜ toldIssued r ≡ spec.writing (spec.appendBytes seal)
         (spec.front (now (genesis .entry)) (clock .0) (now (held .entry)) length pool controller signature)
         (now (held .entry)) length ⌝ }
-    ensures length { λ r. ⌜ r .length ≡ givenOr 0 (toldIssued r) ⌝ }
+    ensures length { λ r. ⌜ r .length ≡ givenOr length (toldIssued r) ⌝ }
     ensures held { λ _. ⌜ now (held .exit) ≡ spec.written (spec.appendBytes seal)
         (spec.front (now (genesis .entry)) (clock .0) (now (held .entry)) length pool controller signature)
         (now (held .entry)) length ⌝ }
@@ -204,35 +205,36 @@ pub fn append(
     let answer = fronted.answer;
     let front = fronted.front;
     match answer {
-        Answer::Refused(number, place) => refused(number, place),
+        Answer::Refused(number, place) => refused(number, place, length),
         Answer::Good => {
             let block = Block {
                 front,
                 block_signature: seal,
             };
-            told(block::write(held, length, block))
+            told(block::write(held, length, block), length)
         }
     }
 }
 
-fn told(place: Place) -> Issued
-    ensures { λ r. ⌜ (toldIssued r ≡ toldNext place) × (r .length ≡ givenOr 0 (toldIssued r)) ⌝ }
+// A refusal answers the length before.
+fn told(place: Place, before: usize) -> Issued
+    ensures { λ r. ⌜ (toldIssued r ≡ toldNext place) × (r .length ≡ givenOr before (toldIssued r)) ⌝ }
 {
     match place {
         Place::Next(length) => Issued {
             answer: Answer::Good,
             length,
         },
-        Place::Refused(number) => refused(number, BlockCount(0)),
+        Place::Refused(number) => refused(number, BlockCount(0), before),
     }
 }
 
-fn refused(number: u32, place: BlockCount) -> Issued
-    ensures { λ r. ⌜ (toldIssued r ≡ refuses number (place .0)) × (r .length ≡ givenOr 0 (toldIssued r)) ⌝ }
+fn refused(number: u32, place: BlockCount, before: usize) -> Issued
+    ensures { λ r. ⌜ (toldIssued r ≡ refuses number (place .0)) × (r .length ≡ givenOr before (toldIssued r)) ⌝ }
 {
     Issued {
         answer: Answer::Refused(number, place),
-        length: 0,
+        length: before,
     }
 }
 
@@ -259,7 +261,7 @@ pub fn block_text(
     let answer = fronted.answer;
     let front = fronted.front;
     match answer {
-        Answer::Refused(number, place) => refused(number, place),
+        Answer::Refused(number, place) => refused(number, place, 0),
         Answer::Good => text(out, front),
     }
 }
@@ -273,7 +275,7 @@ fn text(out: &mut [u8], front: Front) -> Issued
 {
     let letters = b"block";
     match block::write_front(out, 5, front) {
-        Place::Refused(number) => refused(number, BlockCount(0)),
+        Place::Refused(number) => refused(number, BlockCount(0), 0),
         Place::Next(length) => {
             buffer::put(out, 0, letters);
             Issued {

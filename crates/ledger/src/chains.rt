@@ -1,24 +1,19 @@
 // The calls on whole chains: the check of a delivered one, the choice, adoption, and the report on a held one.
-use chain::Answer;
 use order::BlockCount;
 use order::Release;
 use order::Slot;
+use refusal::Answer;
 ghost use mathlib.Core.Path.{_≡_};
-ghost use mathlib.Core.Bool.{true, false};
-ghost use Rattle.laws.specs.Told.{numberOf, placeOf};
 ghost use Rattle.chain.specs.Chain.{checked};
-ghost use Rattle.chain.specs.Answers.{endOr};
-ghost use Rattle.adopt.specs.Adopt.{accepted, choice, chosen, adopted, adopting};
-ghost use Rattle.adopt.specs.Answers.{sizeAndCountOr};
+ghost use Rattle.adopt.specs.Adopt.{accepted, choice, adopted, adopting};
 ghost use Rattle.report.specs.Report.{reported};
-ghost use Rattle.report.specs.Answers.{valuesOr};
-ghost use Rattle.ledger.specs.Answers.{numberIn, placeIn, goodIn};
+ghost use Rattle.ledger.specs.Answers.{checkAnswer, chooseAnswer, adoptAnswer, reportAnswer, numberIn, placeIn, goodIn};
 
 // The block count and the releases after the last block, zeros where the chain was refused.
 #[repr(C)]
 pub struct CheckAnswer {
     pub refusal: u32,
-    pub place: u32,
+    pub place: BlockCount,
     pub count: BlockCount,
     pub releases: [Release; 64],
 }
@@ -27,15 +22,15 @@ pub struct CheckAnswer {
 #[repr(C)]
 pub struct ChooseAnswer {
     pub refusal: u32,
-    pub place: u32,
+    pub place: BlockCount,
     pub delivered: bool,
 }
 
-// The held chain's new length and block count, zeros where the delivered one was refused.
+// The held chain's length from then on, which a refusal leaves as it was, and the adopted chain's block count, 0 where there is none.
 #[repr(C)]
 pub struct AdoptAnswer {
     pub refusal: u32,
-    pub place: u32,
+    pub place: BlockCount,
     pub length: usize,
     pub count: BlockCount,
 }
@@ -44,10 +39,10 @@ pub struct AdoptAnswer {
 #[repr(C)]
 pub struct ReportAnswer {
     pub refusal: u32,
-    pub place: u32,
+    pub place: BlockCount,
     pub held: BlockCount,
     pub settled: BlockCount,
-    pub length: usize,
+    pub settled_length: usize,
     pub releases: [Release; 64],
 }
 
@@ -58,9 +53,7 @@ pub extern "C" fn ledger_check(
     chain: &[u8],
     verdicts: &[u8],
 ) -> CheckAnswer
-    ensures refusal { λ r. ⌜ r .refusal ≡ numberOf (checked (now (genesis .entry)) (clock .0) (now (chain .entry)) (now (verdicts .entry))) ⌝ }
-    ensures place { λ r. ⌜ r .place ≡ placeOf (checked (now (genesis .entry)) (clock .0) (now (chain .entry)) (now (verdicts .entry))) ⌝ }
-    ensures values { λ r. ⌜ (r .count .0, r .releases) ≡ endOr (checked (now (genesis .entry)) (clock .0) (now (chain .entry)) (now (verdicts .entry))) ⌝ }
+    ensures { λ r. ⌜ r ≡ checkAnswer (checked (now (genesis .entry)) (clock .0) (now (chain .entry)) (now (verdicts .entry))) ⌝ }
 {
     let checked = chain::check(genesis, clock, chain, verdicts);
     let answer = checked.answer;
@@ -83,13 +76,8 @@ pub extern "C" fn ledger_choose(
     delivered: &[u8],
     verdicts: &[u8],
 ) -> ChooseAnswer
-    ensures refusal { λ r. ⌜ r .refusal ≡ numberOf
+    ensures { λ r. ⌜ r ≡ chooseAnswer
         (choice (now (genesis .entry)) (clock .0) (now (held .entry)) (now (delivered .entry)) (now (verdicts .entry))) ⌝ }
-    ensures place { λ r. ⌜ r .place ≡ placeOf
-        (choice (now (genesis .entry)) (clock .0) (now (held .entry)) (now (delivered .entry)) (now (verdicts .entry))) ⌝ }
-    ensures shown { λ r. ⌜ r .delivered ≡ chosen
-        (choice (now (genesis .entry)) (clock .0) (now (held .entry)) (now (delivered .entry)) (now (verdicts .entry)))
-        false true ⌝ }
 {
     let answer = adopt::judge(genesis, clock, held, held.len(), delivered, verdicts).answer;
     ChooseAnswer {
@@ -108,13 +96,7 @@ pub extern "C" fn ledger_adopt(
     delivered: &[u8],
     verdicts: &[u8],
 ) -> AdoptAnswer
-    ensures refusal { λ r. ⌜ r .refusal ≡ numberOf (adopted
-        (accepted (now (genesis .entry)) (clock .0) (now (held .entry)) length (now (delivered .entry)) (now (verdicts .entry)))
-        (now (held .entry)) (now (delivered .entry))) ⌝ }
-    ensures place { λ r. ⌜ r .place ≡ placeOf (adopted
-        (accepted (now (genesis .entry)) (clock .0) (now (held .entry)) length (now (delivered .entry)) (now (verdicts .entry)))
-        (now (held .entry)) (now (delivered .entry))) ⌝ }
-    ensures values { λ r. ⌜ (r .length, r .count .0) ≡ sizeAndCountOr (adopted
+    ensures answer { λ r. ⌜ r ≡ adoptAnswer length (adopted
         (accepted (now (genesis .entry)) (clock .0) (now (held .entry)) length (now (delivered .entry)) (now (verdicts .entry)))
         (now (held .entry)) (now (delivered .entry))) ⌝ }
     ensures held { λ _. ⌜ now (held .exit) ≡ adopting
@@ -139,12 +121,7 @@ pub extern "C" fn ledger_report(
     held: &[u8],
     length: usize,
 ) -> ReportAnswer
-    ensures refusal { λ r. ⌜ r .refusal ≡ numberOf (reported (now (genesis .entry)) (clock .0) (now (held .entry)) length) ⌝ }
-    ensures place { λ r. ⌜ r .place ≡ placeOf (reported (now (genesis .entry)) (clock .0) (now (held .entry)) length) ⌝ }
-    ensures held { λ r. ⌜ r .held .0 ≡ valuesOr (reported (now (genesis .entry)) (clock .0) (now (held .entry)) length) .held ⌝ }
-    ensures settled { λ r. ⌜ r .settled .0 ≡ valuesOr (reported (now (genesis .entry)) (clock .0) (now (held .entry)) length) .settled ⌝ }
-    ensures length { λ r. ⌜ r .length ≡ valuesOr (reported (now (genesis .entry)) (clock .0) (now (held .entry)) length) .length ⌝ }
-    ensures releases { λ r. ⌜ r .releases ≡ valuesOr (reported (now (genesis .entry)) (clock .0) (now (held .entry)) length) .releases ⌝ }
+    ensures { λ r. ⌜ r ≡ reportAnswer (reported (now (genesis .entry)) (clock .0) (now (held .entry)) length) ⌝ }
 {
     let report = report::report(genesis, clock, held, length);
     let answer = report.answer;
@@ -156,7 +133,7 @@ pub extern "C" fn ledger_report(
         place: place_of(answer),
         held: whole,
         settled,
-        length: report.length,
+        settled_length: report.length,
         releases,
     }
 }
@@ -172,12 +149,12 @@ pub fn number_of(answer: Answer) -> u32
 }
 
 // And its place.
-pub fn place_of(answer: Answer) -> u32
+pub fn place_of(answer: Answer) -> BlockCount
     ensures { λ r. ⌜ r ≡ placeIn answer ⌝ }
 {
     match answer {
-        Answer::Good => 0,
-        Answer::Refused(_, place) => place.0,
+        Answer::Good => BlockCount(0),
+        Answer::Refused(_, place) => place,
     }
 }
 

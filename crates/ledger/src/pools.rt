@@ -1,14 +1,14 @@
 // The order pool, and issuing a block from it. A signature crosses as a struct, since an array by itself can't.
 use crate::chains::number_of;
 use crate::chains::place_of;
+use order::BlockCount;
 use order::Order;
 use order::Slot;
 use pool::Pool;
 ghost use mathlib.Core.Path.{_≡_};
-ghost use Rattle.laws.specs.Told.{givenOr, numberOf, placeOf};
 ghost use Rattle.pool.specs.Pool.{offered};
-ghost use Rattle.pool.specs.Answers.{poolOr};
 ghost use Rattle.issue.specs.Issue as spec;
+ghost use Rattle.ledger.specs.Answers.{poolAnswer, issueAnswer};
 
 #[repr(C)]
 pub struct Signature {
@@ -19,15 +19,15 @@ pub struct Signature {
 #[repr(C)]
 pub struct PoolAnswer {
     pub refusal: u32,
-    pub place: u32,
+    pub place: BlockCount,
     pub pool: Pool,
 }
 
-// How many bytes were written, or the held chain's new length.
+// How many bytes were written, 0 on a refusal; of append the held chain's length from then on, which a refusal leaves as it was.
 #[repr(C)]
 pub struct IssueAnswer {
     pub refusal: u32,
-    pub place: u32,
+    pub place: BlockCount,
     pub length: usize,
 }
 
@@ -40,9 +40,7 @@ pub extern "C" fn ledger_pool_order(
     pool: Pool,
     order: Order,
 ) -> PoolAnswer
-    ensures refusal { λ r. ⌜ r .refusal ≡ numberOf (offered (now (genesis .entry)) (clock .0) (now (held .entry)) length pool order) ⌝ }
-    ensures place { λ r. ⌜ r .place ≡ placeOf (offered (now (genesis .entry)) (clock .0) (now (held .entry)) length pool order) ⌝ }
-    ensures pool { λ r. ⌜ r .pool ≡ poolOr pool (offered (now (genesis .entry)) (clock .0) (now (held .entry)) length pool order) ⌝ }
+    ensures { λ r. ⌜ r ≡ poolAnswer pool (offered (now (genesis .entry)) (clock .0) (now (held .entry)) length pool order) ⌝ }
 {
     let offered = pool::offer(genesis, clock, held, length, pool, order);
     let answer = offered.answer;
@@ -65,13 +63,7 @@ pub extern "C" fn ledger_draft(
     slot_signature: Signature,
     out: &mut [u8],
 ) -> IssueAnswer
-    ensures refusal { λ r. ⌜ r .refusal ≡ numberOf (spec.writing spec.draftBytes
-        (spec.front (now (genesis .entry)) (clock .0) (now (held .entry)) length pool controller («slot_signature» .bytes))
-        (now (out .entry)) 0) ⌝ }
-    ensures place { λ r. ⌜ r .place ≡ placeOf (spec.writing spec.draftBytes
-        (spec.front (now (genesis .entry)) (clock .0) (now (held .entry)) length pool controller («slot_signature» .bytes))
-        (now (out .entry)) 0) ⌝ }
-    ensures length { λ r. ⌜ r .length ≡ givenOr 0 (spec.writing spec.draftBytes
+    ensures answer { λ r. ⌜ r ≡ issueAnswer 0 (spec.writing spec.draftBytes
         (spec.front (now (genesis .entry)) (clock .0) (now (held .entry)) length pool controller («slot_signature» .bytes))
         (now (out .entry)) 0) ⌝ }
     ensures out { λ _. ⌜ now (out .exit) ≡ spec.written spec.draftBytes
@@ -108,13 +100,7 @@ pub extern "C" fn ledger_block_text(
     slot_signature: Signature,
     out: &mut [u8],
 ) -> IssueAnswer
-    ensures refusal { λ r. ⌜ r .refusal ≡ numberOf (spec.writing spec.textBytes
-        (spec.front (now (genesis .entry)) (clock .0) (now (held .entry)) length pool controller («slot_signature» .bytes))
-        (now (out .entry)) 0) ⌝ }
-    ensures place { λ r. ⌜ r .place ≡ placeOf (spec.writing spec.textBytes
-        (spec.front (now (genesis .entry)) (clock .0) (now (held .entry)) length pool controller («slot_signature» .bytes))
-        (now (out .entry)) 0) ⌝ }
-    ensures length { λ r. ⌜ r .length ≡ givenOr 0 (spec.writing spec.textBytes
+    ensures answer { λ r. ⌜ r ≡ issueAnswer 0 (spec.writing spec.textBytes
         (spec.front (now (genesis .entry)) (clock .0) (now (held .entry)) length pool controller («slot_signature» .bytes))
         (now (out .entry)) 0) ⌝ }
     ensures out { λ _. ⌜ now (out .exit) ≡ spec.written spec.textBytes
@@ -151,13 +137,7 @@ pub extern "C" fn ledger_append(
     slot_signature: Signature,
     block_signature: Signature,
 ) -> IssueAnswer
-    ensures refusal { λ r. ⌜ r .refusal ≡ numberOf (spec.writing (spec.appendBytes («block_signature» .bytes))
-        (spec.front (now (genesis .entry)) (clock .0) (now (held .entry)) length pool controller («slot_signature» .bytes))
-        (now (held .entry)) length) ⌝ }
-    ensures place { λ r. ⌜ r .place ≡ placeOf (spec.writing (spec.appendBytes («block_signature» .bytes))
-        (spec.front (now (genesis .entry)) (clock .0) (now (held .entry)) length pool controller («slot_signature» .bytes))
-        (now (held .entry)) length) ⌝ }
-    ensures length { λ r. ⌜ r .length ≡ givenOr 0 (spec.writing (spec.appendBytes («block_signature» .bytes))
+    ensures answer { λ r. ⌜ r ≡ issueAnswer length (spec.writing (spec.appendBytes («block_signature» .bytes))
         (spec.front (now (genesis .entry)) (clock .0) (now (held .entry)) length pool controller («slot_signature» .bytes))
         (now (held .entry)) length) ⌝ }
     ensures held { λ _. ⌜ now (held .exit) ≡ spec.written (spec.appendBytes («block_signature» .bytes))

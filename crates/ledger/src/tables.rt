@@ -2,18 +2,18 @@
 use genesis::Answer;
 use genesis::Genesis;
 use genesis::KeyPlace;
+use order::BlockCount;
 use order::Slot;
-use refusal::GENESIS;
+use refusal::BAD_GENESIS;
 ghost use mathlib.Core.Path.{_≡_};
-ghost use Rattle.laws.specs.Told.{givenOr, numberOf, placeOf};
 ghost use Rattle.genesis.specs.Genesis as spec;
-ghost use Rattle.genesis.specs.Answers.{tableOf};
+ghost use Rattle.ledger.specs.Answers.{genesisAnswer, keyAnswer};
 
 // The table is all zeros where it was refused.
 #[repr(C)]
 pub struct GenesisAnswer {
     pub refusal: u32,
-    pub place: u32,
+    pub place: BlockCount,
     pub table: Genesis,
 }
 
@@ -21,45 +21,41 @@ pub struct GenesisAnswer {
 #[repr(C)]
 pub struct KeyAnswer {
     pub refusal: u32,
-    pub place: u32,
+    pub place: BlockCount,
     pub at: usize,
 }
 
 #[no_mangle]
 pub extern "C" fn ledger_read_genesis(bytes: &[u8]) -> GenesisAnswer
-    ensures refusal { λ r. ⌜ r .refusal ≡ numberOf (spec.genesisOf (now (bytes .entry))) ⌝ }
-    ensures place { λ r. ⌜ r .place ≡ placeOf (spec.genesisOf (now (bytes .entry))) ⌝ }
-    ensures table { λ r. ⌜ r .table ≡ tableOf (now (bytes .entry)) ⌝ }
+    ensures { λ r. ⌜ r ≡ genesisAnswer (now (bytes .entry)) ⌝ }
 {
     let read = genesis::read(bytes);
     let answer = read.answer;
     let table = read.table;
     let refusal = match answer {
         Answer::Read => 0,
-        Answer::Refused => GENESIS,
+        Answer::Refused => BAD_GENESIS,
     };
     GenesisAnswer {
         refusal,
-        place: 0,
+        place: BlockCount(0),
         table,
     }
 }
 
 #[no_mangle]
 pub extern "C" fn ledger_find_key(bytes: &[u8], controller: u32) -> KeyAnswer
-    ensures refusal { λ r. ⌜ r .refusal ≡ numberOf (spec.keyAt (now (bytes .entry)) controller) ⌝ }
-    ensures place { λ r. ⌜ r .place ≡ placeOf (spec.keyAt (now (bytes .entry)) controller) ⌝ }
-    ensures at { λ r. ⌜ r .at ≡ givenOr 0 (spec.keyAt (now (bytes .entry)) controller) ⌝ }
+    ensures { λ r. ⌜ r ≡ keyAnswer (spec.keyAt (now (bytes .entry)) controller) ⌝ }
 {
     match genesis::find_key(bytes, controller) {
         KeyPlace::At(at) => KeyAnswer {
             refusal: 0,
-            place: 0,
+            place: BlockCount(0),
             at,
         },
         KeyPlace::Refused(number) => KeyAnswer {
             refusal: number,
-            place: 0,
+            place: BlockCount(0),
             at: 0,
         },
     }

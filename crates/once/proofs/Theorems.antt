@@ -335,7 +335,7 @@ pub block-text-leaves-its-buffer-once : OneLater 3 issue-block-text-kinds.ps iss
 block-text-leaves-its-buffer-once κs a x y s t p q = p .1 .1 ∙ sym (q .1 .1)
 
 pub append-answers-once : OneAnswer 2 issue-append-kinds.ps issue-append-kinds.r issue-append.Post
-append-answers-once κs a x y s t p q = issued-faithful x y (paired (p .0 ∙ sym (q .0)) (p .1 .0 ∙ ap (givenOr 0) (p .0 ∙ sym (q .0)) ∙ sym (q .1 .0)))
+append-answers-once κs a x y s t p q = issued-faithful x y (paired (p .0 ∙ sym (q .0)) (p .1 .0 ∙ ap (givenOr _) (p .0 ∙ sym (q .0)) ∙ sym (q .1 .0)))
 
 pub append-leaves-the-held-buffer-once : OneLater 2 issue-append-kinds.ps issue-append-kinds.r issue-append.Post (λ κs s. now (s .1 .1 .0))
 append-leaves-the-held-buffer-once κs a x y s t p q = p .1 .1 ∙ sym (q .1 .1)
@@ -354,24 +354,24 @@ station-answers-once κs a x y s t p q = writing-faithful x y (p .0 ∙ sym (q .
 pub station-leaves-its-buffer-once : OneLater 2 printed-station-kinds.ps printed-station-kinds.r printed-station.Post (λ κs s. now (s .1 .0))
 station-leaves-its-buffer-once κs a x y s t p q = p .1 ∙ sym (q .1)
 
--- ---- ledger: each field is an equation of its own
+-- ---- ledger
 pub ledger-read-number-answers-once : OneAnswer 1 ledger-read-number-kinds.ps ledger-read-number-kinds.r ledger-read-number.Post
-ledger-read-number-answers-once κs a x y s t p q i = record { refusal = (p .0 ∙ sym (q .0)) i; place = (p .1 .0 ∙ sym (q .1 .0)) i; value = (p .1 .1 .0 ∙ sym (q .1 .1 .0)) i; next = (p .1 .1 .1 ∙ sym (q .1 .1 .1)) i }
+ledger-read-number-answers-once κs a x y s t p q = p ∙ sym q
 
 pub ledger-write-number-answers-once : OneAnswer 1 ledger-write-number-kinds.ps ledger-write-number-kinds.r ledger-write-number.Post
-ledger-write-number-answers-once κs a x y s t p q i = record { refusal = (p .0 ∙ sym (q .0)) i; place = (p .1 .0 ∙ sym (q .1 .0)) i; next = (p .1 .1 .0 ∙ sym (q .1 .1 .0)) i }
+ledger-write-number-answers-once κs a x y s t p q = p .0 ∙ sym (q .0)
 
-pub ledger-write-number-leaves-its-buffer-once : OneLater 1 ledger-write-number-kinds.ps ledger-write-number-kinds.r ledger-write-number.Post (λ κs s. now (s .0))
-ledger-write-number-leaves-its-buffer-once κs a x y s t p q = p .1 .1 .1 ∙ sym (q .1 .1 .1)
+pub ledger-write-number-leaves-its-buffer-once : OneLater 1 ledger-write-number-kinds.ps ledger-write-number-kinds.r ledger-write-number.Post (λ κs s. now (s .1 .1 .0))
+ledger-write-number-leaves-its-buffer-once κs a x y s t p q = p .1 ∙ sym (q .1)
 
 pub ledger-digest-answers-once : OneAnswer 1 ledger-digest-kinds.ps ledger-digest-kinds.r ledger-digest.Post
-ledger-digest-answers-once κs a x y s t p q i = record { refusal = (p .0 ∙ sym (q .0)) i; place = (p .1 .0 ∙ sym (q .1 .0)) i; digest = (p .1 .1 ∙ sym (q .1 .1)) i }
+ledger-digest-answers-once κs a x y s t p q = p ∙ sym q
 
 pub ledger-read-genesis-answers-once : OneAnswer 1 ledger-read-genesis-kinds.ps ledger-read-genesis-kinds.r ledger-read-genesis.Post
-ledger-read-genesis-answers-once κs a x y s t p q i = record { refusal = (p .0 ∙ sym (q .0)) i; place = (p .1 .0 ∙ sym (q .1 .0)) i; table = (p .1 .1 ∙ sym (q .1 .1)) i }
+ledger-read-genesis-answers-once κs a x y s t p q = p ∙ sym q
 
 pub ledger-find-key-answers-once : OneAnswer 1 ledger-find-key-kinds.ps ledger-find-key-kinds.r ledger-find-key.Post
-ledger-find-key-answers-once κs a x y s t p q i = record { refusal = (p .0 ∙ sym (q .0)) i; place = (p .1 .0 ∙ sym (q .1 .0)) i; at = (p .1 .1 ∙ sym (q .1 .1)) i }
+ledger-find-key-answers-once κs a x y s t p q = p ∙ sym q
 
 pub ledger-turn-answers-once : OneAnswer 0 ledger-turn-kinds.ps ledger-turn-kinds.r ledger-turn.Post
 ledger-turn-answers-once κs a x y s t p q = p ∙ sym q
@@ -380,55 +380,55 @@ pub ledger-depth-answers-once : OneAnswer 0 ledger-depth-kinds.ps ledger-depth-k
 ledger-depth-answers-once κs a x y s t p q = p ∙ sym q
 
 pub ledger-read-block-answers-once : OneAnswer 1 ledger-read-block-kinds.ps ledger-read-block-kinds.r ledger-read-block.Post
-ledger-read-block-answers-once κs a x y s t p q i = record { refusal = (p .0 ∙ sym (q .0)) i; place = (p .1 .0 ∙ sym (q .1 .0)) i; next = (p .1 .1 .0 ∙ sym (q .1 .1 .0)) i; block = (p .1 .1 .1 ∙ sym (q .1 .1 .1)) i }
+ledger-read-block-answers-once κs a x y s t p q = p ∙ sym q
 
 pub ledger-write-block-answers-once : OneAnswer 1 ledger-write-block-kinds.ps ledger-write-block-kinds.r ledger-write-block.Post
-ledger-write-block-answers-once κs a x y s t p q i = record { refusal = (p .0 ∙ sym (q .0)) i; place = (p .1 .0 ∙ sym (q .1 .0)) i; next = (p .1 .1 .0 ∙ sym (q .1 .1 .0)) i }
+ledger-write-block-answers-once κs a x y s t p q = p .0 ∙ sym (q .0)
 
-pub ledger-write-block-leaves-its-buffer-once : OneLater 1 ledger-write-block-kinds.ps ledger-write-block-kinds.r ledger-write-block.Post (λ κs s. now (s .0))
-ledger-write-block-leaves-its-buffer-once κs a x y s t p q = p .1 .1 .1 ∙ sym (q .1 .1 .1)
+pub ledger-write-block-leaves-its-buffer-once : OneLater 1 ledger-write-block-kinds.ps ledger-write-block-kinds.r ledger-write-block.Post (λ κs s. now (s .1 .1 .0))
+ledger-write-block-leaves-its-buffer-once κs a x y s t p q = p .1 ∙ sym (q .1)
 
 pub ledger-slot-text-answers-once : OneAnswer 1 ledger-slot-text-kinds.ps ledger-slot-text-kinds.r ledger-slot-text.Post
-ledger-slot-text-answers-once κs a x y s t p q i = record { refusal = (p .0 ∙ sym (q .0)) i; place = (p .1 .0 ∙ sym (q .1 .0)) i; next = (p .1 .1 .0 ∙ sym (q .1 .1 .0)) i }
+ledger-slot-text-answers-once κs a x y s t p q = p .0 ∙ sym (q .0)
 
-pub ledger-slot-text-leaves-its-buffer-once : OneLater 1 ledger-slot-text-kinds.ps ledger-slot-text-kinds.r ledger-slot-text.Post (λ κs s. now (s .0))
-ledger-slot-text-leaves-its-buffer-once κs a x y s t p q = p .1 .1 .1 ∙ sym (q .1 .1 .1)
+pub ledger-slot-text-leaves-its-buffer-once : OneLater 1 ledger-slot-text-kinds.ps ledger-slot-text-kinds.r ledger-slot-text.Post (λ κs s. now (s .1 .0))
+ledger-slot-text-leaves-its-buffer-once κs a x y s t p q = p .1 ∙ sym (q .1)
 
 pub ledger-walk-step-answers-once : OneAnswer 1 ledger-walk-step-kinds.ps ledger-walk-step-kinds.r ledger-walk-step.Post
-ledger-walk-step-answers-once κs a x y s t p q i = record { refusal = (p .0 ∙ sym (q .0)) i; place = (p .1 .0 ∙ sym (q .1 .0)) i; end = (p .1 .1 .0 ∙ sym (q .1 .1 .0)) i; next = (p .1 .1 .1 .0 ∙ sym (q .1 .1 .1 .0)) i; block = (p .1 .1 .1 .1 ∙ sym (q .1 .1 .1 .1)) i }
+ledger-walk-step-answers-once κs a x y s t p q = p ∙ sym q
 
 pub ledger-check-answers-once : OneAnswer 3 ledger-check-kinds.ps ledger-check-kinds.r ledger-check.Post
-ledger-check-answers-once κs a x y s t p q i = record { refusal = (p .0 ∙ sym (q .0)) i; place = (p .1 .0 ∙ sym (q .1 .0)) i; count = record { 0 = ap (λ v. v .0) (p .1 .1 ∙ sym (q .1 .1)) i }; releases = ap (λ v. v .1) (p .1 .1 ∙ sym (q .1 .1)) i }
+ledger-check-answers-once κs a x y s t p q = p ∙ sym q
 
 pub ledger-choose-answers-once : OneAnswer 4 ledger-choose-kinds.ps ledger-choose-kinds.r ledger-choose.Post
-ledger-choose-answers-once κs a x y s t p q i = record { refusal = (p .0 ∙ sym (q .0)) i; place = (p .1 .0 ∙ sym (q .1 .0)) i; delivered = (p .1 .1 ∙ sym (q .1 .1)) i }
+ledger-choose-answers-once κs a x y s t p q = p ∙ sym q
 
 pub ledger-adopt-answers-once : OneAnswer 4 ledger-adopt-kinds.ps ledger-adopt-kinds.r ledger-adopt.Post
-ledger-adopt-answers-once κs a x y s t p q i = record { refusal = (p .0 ∙ sym (q .0)) i; place = (p .1 .0 ∙ sym (q .1 .0)) i; length = ap (λ v. v .0) (p .1 .1 .0 ∙ sym (q .1 .1 .0)) i; count = record { 0 = ap (λ v. v .1) (p .1 .1 .0 ∙ sym (q .1 .1 .0)) i } }
+ledger-adopt-answers-once κs a x y s t p q = p .0 ∙ sym (q .0)
 
 pub ledger-adopt-leaves-the-held-buffer-once : OneLater 4 ledger-adopt-kinds.ps ledger-adopt-kinds.r ledger-adopt.Post (λ κs s. now (s .1 .1 .0))
-ledger-adopt-leaves-the-held-buffer-once κs a x y s t p q = p .1 .1 .1 ∙ sym (q .1 .1 .1)
+ledger-adopt-leaves-the-held-buffer-once κs a x y s t p q = p .1 ∙ sym (q .1)
 
 pub ledger-pool-order-answers-once : OneAnswer 2 ledger-pool-order-kinds.ps ledger-pool-order-kinds.r ledger-pool-order.Post
-ledger-pool-order-answers-once κs a x y s t p q i = record { refusal = (p .0 ∙ sym (q .0)) i; place = (p .1 .0 ∙ sym (q .1 .0)) i; pool = (p .1 .1 ∙ sym (q .1 .1)) i }
+ledger-pool-order-answers-once κs a x y s t p q = p ∙ sym q
 
 pub ledger-draft-answers-once : OneAnswer 3 ledger-draft-kinds.ps ledger-draft-kinds.r ledger-draft.Post
-ledger-draft-answers-once κs a x y s t p q i = record { refusal = (p .0 ∙ sym (q .0)) i; place = (p .1 .0 ∙ sym (q .1 .0)) i; length = (p .1 .1 .0 ∙ sym (q .1 .1 .0)) i }
+ledger-draft-answers-once κs a x y s t p q = p .0 ∙ sym (q .0)
 
 pub ledger-draft-leaves-its-buffer-once : OneLater 3 ledger-draft-kinds.ps ledger-draft-kinds.r ledger-draft.Post (λ κs s. now (s .1 .1 .1 .1 .1 .1 .1 .0))
-ledger-draft-leaves-its-buffer-once κs a x y s t p q = p .1 .1 .1 ∙ sym (q .1 .1 .1)
+ledger-draft-leaves-its-buffer-once κs a x y s t p q = p .1 ∙ sym (q .1)
 
 pub ledger-block-text-answers-once : OneAnswer 3 ledger-block-text-kinds.ps ledger-block-text-kinds.r ledger-block-text.Post
-ledger-block-text-answers-once κs a x y s t p q i = record { refusal = (p .0 ∙ sym (q .0)) i; place = (p .1 .0 ∙ sym (q .1 .0)) i; length = (p .1 .1 .0 ∙ sym (q .1 .1 .0)) i }
+ledger-block-text-answers-once κs a x y s t p q = p .0 ∙ sym (q .0)
 
 pub ledger-block-text-leaves-its-buffer-once : OneLater 3 ledger-block-text-kinds.ps ledger-block-text-kinds.r ledger-block-text.Post (λ κs s. now (s .1 .1 .1 .1 .1 .1 .1 .0))
-ledger-block-text-leaves-its-buffer-once κs a x y s t p q = p .1 .1 .1 ∙ sym (q .1 .1 .1)
+ledger-block-text-leaves-its-buffer-once κs a x y s t p q = p .1 ∙ sym (q .1)
 
 pub ledger-append-answers-once : OneAnswer 2 ledger-append-kinds.ps ledger-append-kinds.r ledger-append.Post
-ledger-append-answers-once κs a x y s t p q i = record { refusal = (p .0 ∙ sym (q .0)) i; place = (p .1 .0 ∙ sym (q .1 .0)) i; length = (p .1 .1 .0 ∙ sym (q .1 .1 .0)) i }
+ledger-append-answers-once κs a x y s t p q = p .0 ∙ sym (q .0)
 
 pub ledger-append-leaves-the-held-buffer-once : OneLater 2 ledger-append-kinds.ps ledger-append-kinds.r ledger-append.Post (λ κs s. now (s .1 .1 .0))
-ledger-append-leaves-the-held-buffer-once κs a x y s t p q = p .1 .1 .1 ∙ sym (q .1 .1 .1)
+ledger-append-leaves-the-held-buffer-once κs a x y s t p q = p .1 ∙ sym (q .1)
 
 pub ledger-report-answers-once : OneAnswer 2 ledger-report-kinds.ps ledger-report-kinds.r ledger-report.Post
-ledger-report-answers-once κs a x y s t p q i = record { refusal = (p .0 ∙ sym (q .0)) i; place = (p .1 .0 ∙ sym (q .1 .0)) i; held = record { 0 = (p .1 .1 .0 ∙ sym (q .1 .1 .0)) i }; settled = record { 0 = (p .1 .1 .1 .0 ∙ sym (q .1 .1 .1 .0)) i }; length = (p .1 .1 .1 .1 .0 ∙ sym (q .1 .1 .1 .1 .0)) i; releases = (p .1 .1 .1 .1 .1 ∙ sym (q .1 .1 .1 .1 .1)) i }
+ledger-report-answers-once κs a x y s t p q = p ∙ sym q

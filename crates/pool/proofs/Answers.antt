@@ -3,7 +3,7 @@
 use Rattle.laws.specs.Told.{Told}
 use Rattle.laws.specs.Answers.{Faithful}
 use Rattle.laws.proofs.Answers.{undone}
-use Rattle.chain.proofs.Answers.{answerOf, answer-back}
+use Rattle.refusal.proofs.Answers.{answerOf, answer-back}
 use Rattle.pool.specs.Answers.{toldOffered}
 use Rattle.pool.specs.declared.Offered.{Offered}
 use Rattle.pool.specs.declared.Pool.{Pool}

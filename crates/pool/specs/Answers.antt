@@ -3,7 +3,7 @@
 use lib.ListN.{length}
 use Rattle.laws.specs.Told.{Told, givenOr}
 use Rattle.laws.specs.Tabulate.{tailed}
-use Rattle.chain.specs.Answers.{toldAnswer}
+use Rattle.refusal.specs.Answers.{toldAnswer}
 use Rattle.pool.specs.Pool.{Taking, room, noEntry}
 use Rattle.pool.specs.declared.Offered.{Offered}
 use Rattle.pool.specs.declared.Pool.{Pool}

@@ -1,5 +1,4 @@
 // The order pool (01, "Pool an order"), in pieces: judge it, keep what counts, take what is valid, add a last entry.
-use chain::Answer;
 use chain::Opened;
 use chain::Summary;
 use order::BlockCount;
@@ -9,10 +8,11 @@ use order::Release;
 use order::Slot;
 use order::earlier;
 use order::fewer_slots_ago;
-use refusal::OFFER;
-use refusal::POOL;
+use refusal::Answer;
+use refusal::BAD_OFFER;
+use refusal::BAD_POOL;
+use refusal::OUT_OF_RANGE;
 use refusal::POOL_FULL;
-use refusal::RANGE;
 ghost use mathlib.Core.Path.{_≡_};
 ghost use Prim.Native.Nat.{_+_, _<_};
 ghost use lib.Dec.{leb};
@@ -184,7 +184,7 @@ pub fn offer(
         Answer::Refused(number, place) => refused(number, place, pool),
         Answer::Good => {
             if !fits(opened.clock, pool) {
-                return refused(POOL, BlockCount(0), pool);
+                return refused(BAD_POOL, BlockCount(0), pool);
             }
             let kept = counting(opened, summary, pool);
             join(opened, summary, pool, kept, order)
@@ -208,14 +208,14 @@ fn join(opened: Opened, held: Summary, pool: Pool, kept: Pool, order: Order) -> 
     ensures { λ r. ⌜ r .pool ≡ poolOr pool (toldOffered r) ⌝ }
 {
     if DISPLAYS <= order.display as usize {
-        return refused(RANGE, BlockCount(0), pool);
+        return refused(OUT_OF_RANGE, BlockCount(0), pool);
     }
     let whole = held.whole;
     let before = whole.releases;
     let taken = take(kept, before, ROOM);
     let releases = taken.releases;
     if !order::valid(&releases, order) {
-        return refused(OFFER, BlockCount(0), pool);
+        return refused(BAD_OFFER, BlockCount(0), pool);
     }
     if ROOM <= kept.count {
         return refused(POOL_FULL, BlockCount(0), pool);

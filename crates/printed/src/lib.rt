@@ -8,8 +8,8 @@ use lines::put_text;
 use number::Reading;
 use order::BlockCount;
 use order::Slot;
-use refusal::CLOCK;
-use refusal::GENESIS;
+use refusal::BAD_CLOCK;
+use refusal::BAD_GENESIS;
 use report::Reported;
 ghost use mathlib.Core.Path.{_≡_};
 ghost use lib.ListN.{length};
@@ -52,11 +52,11 @@ fn answered(input: &[u8]) -> Asked
     ensures { λ r. ⌜ toldAsked r ≡ spec.answered (now (input .entry)) ⌝ }
 {
     match genesis_at(input) {
-        Start::Fault => refused(GENESIS),
+        Start::Fault => refused(BAD_GENESIS),
         Start::Genesis(from, to) => match number::read(input, to) {
             Reading::Value(clock, at) => stated(&input[from..to], Slot(clock), &input[at..]),
-            Reading::Cut => refused(CLOCK),
-            Reading::Badly => refused(CLOCK),
+            Reading::Cut => refused(BAD_CLOCK),
+            Reading::Badly => refused(BAD_CLOCK),
         },
     }
 }

@@ -2,10 +2,10 @@
 use crate::Asked;
 use crate::decimal;
 use buffer::after;
-use chain::Answer;
 use order::BlockCount;
 use order::Release;
 use order::Slot;
+use refusal::Answer;
 ghost use Rattle.laws.specs.Placed.{Room, Wrote};
 ghost use Rattle.printed.specs.Station as spec;
 ghost use Rattle.printed.specs.Answers.{toldAsked};

@@ -1,38 +1,46 @@
-// No function: the refusal numbers of 01, "Refusal numbers".
+// No function: the refusal numbers of 01, "Refusal numbers", and the answer of a call that may refuse.
+use order::BlockCount;
+
+// What the call gives stands beside it in the call's own struct.
+pub enum Answer {
+    Good,
+    // the number, and the place: a block counted from 1, or 0
+    Refused(u32, BlockCount),
+}
 
 // genesis bytes break a rule
-pub const GENESIS: u32 = 1;
+pub const BAD_GENESIS: u32 = 1;
 // now is not 1 to 256
-pub const CLOCK: u32 = 2;
+pub const BAD_CLOCK: u32 = 2;
 // bytes end inside a block or number
 pub const CUT: u32 = 3;
 // a number is not shortest, or too large
-pub const BADLY: u32 = 4;
+pub const BAD_NUMBER: u32 = 4;
 // order count, display or slot out of its range
-pub const RANGE: u32 = 5;
+pub const OUT_OF_RANGE: u32 = 5;
 // a stamp not above the one before; draft or append: held chain ends at now
-pub const STAMP: u32 = 6;
+pub const BAD_STAMP: u32 = 6;
 // a delivered stamp not below now
-pub const LATE: u32 = 7;
+pub const LATE_STAMP: u32 = 7;
 // verdict not 3, or missing
-pub const VERDICT: u32 = 8;
+pub const BAD_VERDICT: u32 = 8;
 // link wrong
-pub const LINK: u32 = 9;
+pub const BAD_LINK: u32 = 9;
 // an order not valid at its point
-pub const ORDER: u32 = 10;
+pub const BAD_ORDER: u32 = 10;
 // not more blocks than held
 pub const NOT_LONGER: u32 = 11;
 // controller not 1 to n, or not its turn
-pub const TURN: u32 = 12;
+pub const WRONG_CONTROLLER: u32 = 12;
 // 64 entries still count
 pub const POOL_FULL: u32 = 13;
 // new order not valid where it would stand
-pub const OFFER: u32 = 14;
+pub const BAD_OFFER: u32 = 14;
 // lent output too short
-pub const SHORT: u32 = 15;
+pub const SHORT_BUFFER: u32 = 15;
 // delivered chain over 64,256 bytes, or a slice to digest over 65,536
-pub const LONG: u32 = 16;
+pub const TOO_LONG: u32 = 16;
 // held chain bad
-pub const HELD: u32 = 17;
+pub const BAD_HELD: u32 = 17;
 // pool bad
-pub const POOL: u32 = 18;
+pub const BAD_POOL: u32 = 18;

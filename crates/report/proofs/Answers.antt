@@ -3,7 +3,7 @@
 use Rattle.laws.specs.Told.{Told}
 use Rattle.laws.specs.Answers.{Faithful}
 use Rattle.laws.proofs.Answers.{undone}
-use Rattle.chain.proofs.Answers.{answerOf, answer-back}
+use Rattle.refusal.proofs.Answers.{answerOf, answer-back}
 use Rattle.report.specs.Report.{Report}
 use Rattle.report.specs.Answers.{valuesOf, toldReported}
 use Rattle.report.specs.declared.Reported.{Reported}

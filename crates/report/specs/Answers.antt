@@ -2,7 +2,7 @@
 -- Assumes nothing.
 use lib.ListN.{replicate}
 use Rattle.laws.specs.Told.{Told, givenOr}
-use Rattle.chain.specs.Answers.{toldAnswer}
+use Rattle.refusal.specs.Answers.{toldAnswer}
 use Rattle.report.specs.Report.{Report}
 use Rattle.report.specs.declared.Reported.{Reported}
 

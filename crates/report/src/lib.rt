@@ -1,8 +1,8 @@
 // The report (01, "Report"): how many blocks are held, how many of them are settled, and what the settled ones come to.
-use chain::Answer;
 use order::BlockCount;
 use order::Release;
 use order::Slot;
+use refusal::Answer;
 ghost use mathlib.Core.Path.{_≡_};
 ghost use Rattle.laws.specs.Told.{refuses};
 ghost use Rattle.report.specs.Report as spec;

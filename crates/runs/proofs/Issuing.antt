@@ -9,7 +9,7 @@ use lib.ListN.{length, take, length-append}
 use lib.Seq.{length-take-le}
 use borrow.Author.Tests.{lt-ltb, le-leb, eq-eqb}
 use Rattle.laws.specs.Pick.{pick}
-use Rattle.laws.specs.Told.{Told, gives, then}
+use Rattle.laws.specs.Told.{Told, gives, then, givenOr}
 use Rattle.laws.specs.Every.{within}
 use Rattle.laws.specs.Format.{Bytes}
 use Rattle.laws.specs.Placed.{placed, placing}
@@ -31,7 +31,7 @@ use Rattle.chain.proofs.Theorems.{a-block-behind-an-accepted-chain-is-accepted,
 use Rattle.pool.specs.Pool.{counting, ordersOf, taking}
 use Rattle.issue.specs.Issue.{nextFront, front, writing, written, appendBytes}
 use Rattle.issue.proofs.Appending.{link-digest, followed-digest, nextParts, append-writes, next-follows, next-parts-fit}
-use Rattle.runs.specs.Runs.{Node, sizeOr, issues}
+use Rattle.runs.specs.Runs.{Node, issues}
 use Rattle.runs.proofs.Nodes.{opening, Keeps, keeps-later, Held, held-there, opens}
 use Rattle.runs.proofs.Pools.{Pooled}
 
@@ -156,7 +156,7 @@ module _ (genesis : List ℕ) (table : Genesis) (clock : ℕ) (s : Node) (blocks
   keeps-one-more =
       let next = s .size + length (blockBytes block) in
       let long = placed-size (s .buffer) (s .size) (blockBytes block) next fits-there in
-      let size-is : next ≡ issues genesis clock (x .controller) (x .signature) (x .seal) s .size = ap (sizeOr (s .size) (λ (n : ℕ). n)) (sym never-refused) in
+      let size-is : next ≡ issues genesis clock (x .controller) (x .signature) (x .seal) s .size = ap (givenOr (s .size)) (sym never-refused) in
       subst (λ (l : List ℕ). Keeps genesis table (clock + 1) l (issues genesis clock (x .controller) (x .signature) (x .seal) s .size) (blocks ++ (block ∷ []))) (sym laid)
       (subst (λ (n : ℕ). Keeps genesis table (clock + 1) (placing (s .buffer) (s .size) (blockBytes block)) n (blocks ++ (block ∷ []))) size-is
       (record {

@@ -27,7 +27,8 @@ use Rattle.chain.specs.declared.Summary.{Summary}
 use Rattle.chain.proofs.Clocks.{admits-held, admits-below}
 use Rattle.chain.proofs.Theorems.{blocks-that-follow-and-are-admitted-are-accepted, accepted-blocks-may-be-held, accepted-blocks-may-be-delivered, a-delivered-chain-is-accepted-blocks, the-count-is-the-number-of-blocks, at-most-64256-bytes}
 use Rattle.adopt.specs.Adopt.{longer, accepted, adopted, adopting}
-use Rattle.runs.specs.Runs.{Node, delivery, sizeOr, afterEvent, adopts, AdoptedOrEqualled, adopted-now, equalled}
+use Rattle.adopt.specs.Answers.{sizeAndCountOr}
+use Rattle.runs.specs.Runs.{Node, delivery, afterEvent, adopts, AdoptedOrEqualled, adopted-now, equalled}
 
 -- what the calls are opened with in a slot
 abbrev pub opening : List ℕ → Genesis → ℕ → Opened
@@ -105,7 +106,7 @@ module _ (genesis : List ℕ) (table : Genesis) where
         abbrev answered : Told ℕ → Node
         answered t = record {
           buffer = adopting t (s .buffer) bytes;
-          size = sizeOr (s .size) (λ a. a .0) (adopted t (s .buffer) bytes);
+          size = sizeAndCountOr (s .size) (adopted t (s .buffer) bytes) .0;
           pool = s .pool;
         }
 
@@ -143,7 +144,7 @@ module _ (genesis : List ℕ) (table : Genesis) where
             let (others, is, a) = a-delivered-chain-is-accepted-blocks o d bytes verdicts are-bytes e in
             let few : 0 + length bytes ≤ length (s .buffer) = omega (arith, k .room, ap length is, at-most-64256-bytes o (delivered verdicts) others d a) in
             let fits : placed (s .buffer) 0 bytes ≡ gives (0 + length bytes) = sym (with-room (s .buffer) 0 bytes few .0) in
-            let size-is : sizeOr (s .size) (λ (x : ℕ × ℕ). x .0) (then (placed (s .buffer) 0 bytes) λ size. gives (size, d .whole .count .0)) ≡ 0 + length bytes =
+            let size-is : sizeAndCountOr (s .size) (then (placed (s .buffer) 0 bytes) λ size. gives (size, d .whole .count .0)) .0 ≡ 0 + length bytes =
             rw fits in
             let long = placed-size (s .buffer) 0 bytes (0 + length bytes) fits in
             let count = the-count-is-the-number-of-blocks o (delivered verdicts) others d a in

@@ -8,7 +8,7 @@ use mathlib.Core.List.{List, [], _∷_, _++_}
 use lib.Dec.{eqb}
 use lib.ListN.{length, take, getD}
 use Rattle.laws.specs.Pick.{pick}
-use Rattle.laws.specs.Told.{Told, gives, refuses}
+use Rattle.laws.specs.Told.{Told, gives, refuses, givenOr}
 use Rattle.laws.specs.Fold.{folded}
 use Rattle.laws.specs.Format.{Bytes, Each}
 use Rattle.number.specs.Number.{largest}
@@ -19,6 +19,7 @@ use Rattle.block.specs.Block.{Parts, blockBytes, Fits}
 use Rattle.chain.specs.Chain.{longest, linkOf}
 use Rattle.chain.specs.Blocks.{chainBytes}
 use Rattle.adopt.specs.Adopt.{accepted, adopted, adopting}
+use Rattle.adopt.specs.Answers.{sizeAndCountOr}
 use Rattle.pool.specs.Pool.{offered}
 use Rattle.pool.specs.Answers.{poolOr}
 use Rattle.pool.specs.declared.Pool.{Pool}
@@ -40,19 +41,15 @@ pub data Event : Type 0 where
   delivery : (bytes verdicts : List ℕ) → Event
   offer : Order → Event
 
--- the new length where a call gives one, else the old one
-abbrev pub sizeOr : {A : Type 0} → ℕ → (A → ℕ) → Told A → ℕ
-sizeOr before size (gives a) = size a
-sizeOr before size (refuses number place) = before
-
--- an event is a call: adopt, or pool an order; what the call adopt answers, and what is kept then
+-- an event is a call: adopt, or pool an order; what the call adopt tells, and what is kept then: the buffer, the length that is answered and the pool as
+-- the call leaves them
 abbrev pub adopts : (genesis : List ℕ) (clock : ℕ) → Node → (bytes verdicts : List ℕ) → Told (ℕ × ℕ)
 adopts genesis clock s bytes verdicts = adopted (accepted genesis clock (s .buffer) (s .size) bytes verdicts) (s .buffer) bytes
 
 abbrev pub afterEvent : (genesis : List ℕ) (clock : ℕ) → Node → Event → Node
 afterEvent genesis clock s (delivery bytes verdicts) = record {
   buffer = adopting (accepted genesis clock (s .buffer) (s .size) bytes verdicts) (s .buffer) bytes;
-  size = sizeOr (s .size) (λ a. a .0) (adopts genesis clock s bytes verdicts);
+  size = sizeAndCountOr (s .size) (adopts genesis clock s bytes verdicts) .0;
   pool = s .pool;
 }
 afterEvent genesis clock s (offer order) = record {
@@ -69,7 +66,7 @@ appends genesis clock controller signature seal s =
 abbrev pub issues : (genesis : List ℕ) (clock controller : ℕ) (signature seal : List ℕ) → Node → Node
 issues genesis clock controller signature seal s = record {
   buffer = written (appendBytes seal) (front genesis clock (s .buffer) (s .size) (s .pool) controller signature) (s .buffer) (s .size);
-  size = sizeOr (s .size) (λ n. n) (appends genesis clock controller signature seal s);
+  size = givenOr (s .size) (appends genesis clock controller signature seal s);
   pool = s .pool;
 }
 

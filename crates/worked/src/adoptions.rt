@@ -6,8 +6,8 @@ use crate::fields::part;
 use crate::fields::same;
 use crate::print;
 use adopt::Adopted;
-use chain::Answer;
 use order::Slot;
+use refusal::Answer;
 
 // Answers a case of one of these ops, and says whether it is one.
 pub fn answer(op: &[u8], line: &[u8]) -> bool {

@@ -4,11 +4,11 @@ use crate::fields;
 use crate::fields::part;
 use crate::fields::same;
 use crate::print;
-use chain::Answer;
 use chain::Checked;
 use chain::Passed;
 use chain::Standing;
 use order::Slot;
+use refusal::Answer;
 
 // Answers a case of one of these ops, and says whether it is one.
 pub fn answer(op: &[u8], line: &[u8]) -> bool {

@@ -8,9 +8,9 @@ use crate::fields::same;
 use crate::pools::pool_of;
 use crate::print;
 use crate::writes::signature;
-use chain::Answer;
 use issue::Issued;
 use order::Slot;
+use refusal::Answer;
 
 // Answers a case of one of these ops, and says whether it is one.
 pub fn answer(op: &[u8], line: &[u8]) -> bool {

@@ -5,12 +5,12 @@ use crate::fields::part;
 use crate::fields::same;
 use crate::print;
 use crate::writes::order_of;
-use chain::Answer;
 use order::Order;
 use order::Slot;
 use pool::Entry;
 use pool::Offered;
 use pool::Pool;
+use refusal::Answer;
 
 // Answers a case of this op, and says whether it is one.
 pub fn answer(op: &[u8], line: &[u8]) -> bool {

@@ -6,10 +6,10 @@ use crate::fields::same;
 use crate::print;
 use genesis::Answer;
 use genesis::Genesis;
-use genesis::KEY;
+use genesis::KEY_BYTES;
 use genesis::KeyPlace;
 use order::Slot;
-use refusal::GENESIS;
+use refusal::BAD_GENESIS;
 
 // Answers a case of one of these ops, and says whether it is one.
 pub fn answer(op: &[u8], line: &[u8]) -> bool {
@@ -39,7 +39,7 @@ fn genesis(line: &[u8]) {
     let table = read.table;
     match answer {
         Answer::Read => print_table(table),
-        Answer::Refused => print::refused(GENESIS),
+        Answer::Refused => print::refused(BAD_GENESIS),
     }
 }
 
@@ -47,7 +47,7 @@ fn print_table(table: Genesis) {
     print::value(b"n", table.n as u64);
     print::value(b" t", table.t as u64);
     print::value(b" u", table.u as u64);
-    print::value(b" keys at", table.keys as u64);
+    print::value(b" keys at", table.keys_at as u64);
     print::text(b" releases");
     let releases = table.releases;
     print::releases(&releases);
@@ -61,7 +61,7 @@ fn turn(line: &[u8]) {
     let slot = Slot(fields::number(line, 2));
     match answer {
         Answer::Read => print::value(b"controller", genesis::turn(table, slot) as u64),
-        Answer::Refused => print::refused(GENESIS),
+        Answer::Refused => print::refused(BAD_GENESIS),
     }
 }
 
@@ -72,7 +72,7 @@ fn depth(line: &[u8]) {
     let table = read.table;
     match answer {
         Answer::Read => print::value(b"depth", genesis::depth(table)),
-        Answer::Refused => print::refused(GENESIS),
+        Answer::Refused => print::refused(BAD_GENESIS),
     }
 }
 
@@ -92,7 +92,7 @@ fn key(line: &[u8]) {
         KeyPlace::At(at) => {
             print::value(b"key at", at as u64);
             print::text(b" ");
-            print::bytes(fields::span(bytes, at, KEY));
+            print::bytes(fields::span(bytes, at, KEY_BYTES));
         }
         KeyPlace::Refused(number) => print::refused(number),
     }

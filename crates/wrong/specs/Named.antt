@@ -5,6 +5,7 @@ use mathlib.Core.List.{List, [], _∷_, _++_}
 use lib.ListN.{replicate}
 use Rattle.laws.specs.Told.{Told}
 use Rattle.order.specs.declared.Order.{Order}
+use Rattle.genesis.specs.Genesis.{tableWith}
 use Rattle.genesis.specs.declared.Genesis.{Genesis}
 use Rattle.block.specs.Block.{Parts}
 use Rattle.block.specs.declared.Front.{Front}
@@ -20,7 +21,7 @@ abbrev pub genesis : List ℕ
 genesis = 1 ∷ 0 ∷ 1 ∷ 7 ∷ zeros 95
 
 abbrev pub table : Genesis
-table = record { n = 1; t = 0; u = 1; releases = 7 ∷ zeros 63; keys = 67 }
+table = tableWith 1 0 1 (7 ∷ zeros 63) 67
 
 -- its digest, as GNU sha256sum prints it
 abbrev pub link : List ℕ

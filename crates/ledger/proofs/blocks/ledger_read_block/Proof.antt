@@ -20,7 +20,12 @@ returns : tie.Need-returns
 returns c =
     let read = c .before .before .before .read in
     let crosses = found-crosses (partsIn (read .result .block)) (read .result .place) (read .ensures .0) in
-    (c .before .number-at .ensures ∙ crosses .number, (crosses .no-place, (c .next-at .ensures ∙ crosses .value, read .ensures .1)))
+    λ i. record {
+      refusal = (c .before .number-at .ensures ∙ crosses .number) i;
+      place = crosses .no-place i;
+      next = (c .next-at .ensures ∙ crosses .value) i;
+      block = read .ensures .1 i;
+    }
 
 pub ledger-read-block-spec : {M : Type 1} → statement M
 ledger-read-block-spec =

@@ -1,8 +1,7 @@
 -- `ledger::blocks::ledger_slot_text` meets its contract.
 -- Assumes nothing.
-use mathlib.Core.Path.{_∙_}
 use borrow.Author.Needs.{needs}
-use Rattle.ledger.proofs.Crossing.{next-crosses}
+use Rattle.ledger.proofs.Crossing.{next-answer}
 use Rattle.ledger.proofs.blocks.ledger_slot_text.Statement.{statement}
 use Rattle.ledger.proofs.blocks.ledger_slot_text.Tie as tie
 
@@ -20,9 +19,10 @@ same-length c = search needs
 
 returns : tie.Need-returns
 returns c =
-    let call = c .before .before .before .before .slot-text in
-    let crosses = next-crosses (call .result) (call .ensures .0) in
-    (c .before .number-at .ensures ∙ crosses .number, (crosses .no-place, (c .next-at .ensures ∙ crosses .value, call .ensures .1)))
+    let call = c .before .before .before .before .slot-text in (
+      next-answer (call .result) (call .ensures .0) (c .before .number-at .ensures) (c .next-at .ensures),
+      call .ensures .1,
+    )
 
 pub ledger-slot-text-spec : {M : Type 1} → statement M
 ledger-slot-text-spec =

@@ -1,10 +1,7 @@
 -- `ledger::blocks::ledger_walk_step` meets its contract.
 -- Assumes nothing.
-use mathlib.Core.Path.{ap}
 use borrow.Author.Needs.{needs}
-use Rattle.laws.specs.Told.{numberOf, placeOf}
-use Rattle.walk.specs.Walk.{placeAfter}
-use Rattle.ledger.specs.Answers.{isEnd}
+use Rattle.ledger.proofs.Crossing.{stepped}
 use Rattle.ledger.proofs.blocks.ledger_walk_step.Statement.{statement}
 use Rattle.ledger.proofs.blocks.ledger_walk_step.Tie as tie
 
@@ -22,18 +19,18 @@ enum-known-reached-2 c = search needs
 
 returns : tie.Need-returns
 returns c =
-    let told = rw (c .before .reached .given .1) at (c .before .before .before .before .walked .ensures .0) in
-    (ap numberOf told, (ap placeOf told, (ap isEnd told, (ap (placeAfter _) told, c .before .before .before .before .walked .ensures .1))))
+    let walked = c .before .before .before .before .walked .ensures in
+    stepped _ (rw (c .before .reached .given .1) at (walked .0)) (walked .1)
 
 returns-2 : tie.Need-returns-2
 returns-2 c =
-    let told = rw (c .enum-told .given .1) at (c .before .before .before .walked .ensures .0) in
-    (ap numberOf told, (ap placeOf told, (ap isEnd told, (ap (placeAfter _) told, c .before .before .before .walked .ensures .1))))
+    let walked = c .before .before .before .walked .ensures in
+    stepped _ (rw (c .enum-told .given .1) at (walked .0)) (walked .1)
 
 returns-3 : tie.Need-returns-3
 returns-3 c =
-    let told = rw (c .before .reached2 .given .1) at (c .before .before .before .before .walked .ensures .0) in
-    (ap numberOf told, (ap placeOf told, (ap isEnd told, (ap (placeAfter _) told, c .before .before .before .before .walked .ensures .1))))
+    let walked = c .before .before .before .before .walked .ensures in
+    stepped _ (rw (c .before .reached2 .given .1) at (walked .0)) (walked .1)
 
 pub ledger-walk-step-spec : {M : Type 1} → statement M
 ledger-walk-step-spec =

@@ -21,9 +21,16 @@ same-length c = search needs
 
 returns : tie.Need-returns
 returns c =
-    let adopt = c .before .before .before .before .before .adopt in (
-      c .before .number-of .ensures ∙ number-crosses (sizeAndCount (adopt .result)) (adopt .result .answer) (adopt .ensures .0),
-      (c .place-of .ensures ∙ place-crosses (sizeAndCount (adopt .result)) (adopt .result .answer) (adopt .ensures .0), (adopt .ensures .1 .0, adopt .ensures .1 .1)),
+    let adopt = c .before .before .before .before .before .adopt in
+    let answer = adopt .result .answer in
+    let values = adopt .ensures .1 .0 in (
+      λ i. record {
+        refusal = (c .before .number-of .ensures ∙ number-crosses (sizeAndCount (adopt .result)) answer (adopt .ensures .0)) i;
+        place = (c .place-of .ensures ∙ place-crosses (sizeAndCount (adopt .result)) answer (adopt .ensures .0)) i;
+        length = values i .0;
+        count = record { 0 = values i .1 };
+      },
+      adopt .ensures .1 .1,
     )
 
 pub ledger-adopt-spec : {M : Type 1} → statement M

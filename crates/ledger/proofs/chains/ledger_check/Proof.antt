@@ -18,10 +18,14 @@ place-of-requires c κs = search needs
 
 returns : tie.Need-returns
 returns c =
-    let check = c .before .before .before .before .check in (
-      c .before .number-of .ensures ∙ number-crosses (endOf (check .result)) (check .result .answer) (check .ensures .0),
-      (c .place-of .ensures ∙ place-crosses (endOf (check .result)) (check .result .answer) (check .ensures .0), check .ensures .1),
-    )
+    let check = c .before .before .before .before .check in
+    let answer = check .result .answer in
+    λ i. record {
+      refusal = (c .before .number-of .ensures ∙ number-crosses (endOf (check .result)) answer (check .ensures .0)) i;
+      place = (c .place-of .ensures ∙ place-crosses (endOf (check .result)) answer (check .ensures .0)) i;
+      count = record { 0 = check .ensures .1 i .0 };
+      releases = check .ensures .1 i .1;
+    }
 
 pub ledger-check-spec : {M : Type 1} → statement M
 ledger-check-spec =

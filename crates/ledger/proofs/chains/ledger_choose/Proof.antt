@@ -22,10 +22,12 @@ returns : tie.Need-returns
 returns c =
     let judge = c .before .before .before .judge in
     let count = judge .result .count .0 in
-    let answer = judge .result .answer in (
-      c .before .before .number-of .ensures ∙ number-crosses count answer (judge .ensures .0),
-      (c .before .place-of .ensures ∙ place-crosses count answer (judge .ensures .0), c .is-good .ensures ∙ choice-crosses count answer (judge .ensures .0)),
-    )
+    let answer = judge .result .answer in
+    λ i. record {
+      refusal = (c .before .before .number-of .ensures ∙ number-crosses count answer (judge .ensures .0)) i;
+      place = (c .before .place-of .ensures ∙ place-crosses count answer (judge .ensures .0)) i;
+      delivered = (c .is-good .ensures ∙ choice-crosses count answer (judge .ensures .0)) i;
+    }
 
 pub ledger-choose-spec : {M : Type 1} → statement M
 ledger-choose-spec =

@@ -20,20 +20,16 @@ place-of-requires c κs = search needs
 returns : tie.Need-returns
 returns c =
     let report = c .before .before .before .before .before .report in
-    let values = valuesOf (report .result) in
-    let answer = report .result .answer in (
-      c .before .number-of .ensures ∙ number-crosses values answer (report .ensures .0),
-      (
-        c .place-of .ensures ∙ place-crosses values answer (report .ensures .0),
-        (
-          ap (λ (v : Report). v .held) (report .ensures .1),
-          (
-            ap (λ (v : Report). v .settled) (report .ensures .1),
-            (ap (λ (v : Report). v .length) (report .ensures .1), ap (λ (v : Report). v .releases) (report .ensures .1)),
-          ),
-        ),
-      ),
-    )
+    let answer = report .result .answer in
+    let values = report .ensures .1 in
+    λ i. record {
+      refusal = (c .before .number-of .ensures ∙ number-crosses (valuesOf (report .result)) answer (report .ensures .0)) i;
+      place = (c .place-of .ensures ∙ place-crosses (valuesOf (report .result)) answer (report .ensures .0)) i;
+      held = record { 0 = values i .held };
+      settled = record { 0 = values i .settled };
+      «settled_length» = values i .length;
+      releases = values i .releases;
+    }
 
 pub ledger-report-spec : {M : Type 1} → statement M
 ledger-report-spec =

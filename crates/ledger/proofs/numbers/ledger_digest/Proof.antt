@@ -2,7 +2,8 @@
 -- Assumes nothing.
 use mathlib.Core.Path.{ap}
 use borrow.Author.Needs.{needs}
-use Rattle.laws.specs.Told.{numberOf, placeOf}
+use Rattle.laws.specs.Told.{numberOf}
+use Rattle.ledger.specs.Answers.{blockPlace}
 use Rattle.ledger.proofs.numbers.ledger_digest.Statement.{statement}
 use Rattle.ledger.proofs.numbers.ledger_digest.Tie as tie
 
@@ -19,13 +20,13 @@ returns : tie.Need-returns
 returns c =
     let digest = c .before .before .before .digest in
     let told = rw (c .enum-told .given .1) at (digest .ensures .0) in
-    (ap numberOf told, (ap placeOf told, digest .ensures .1))
+    λ i. record { refusal = numberOf (told i); place = blockPlace (told i); digest = digest .ensures .1 i }
 
 returns-2 : tie.Need-returns-2
 returns-2 c =
     let digest = c .before .before .before .digest in
     let told = rw (c .enum-told2 .given .1) at (digest .ensures .0) in
-    (ap numberOf told, (ap placeOf told, digest .ensures .1))
+    λ i. record { refusal = numberOf (told i); place = blockPlace (told i); digest = digest .ensures .1 i }
 
 pub ledger-digest-spec : {M : Type 1} → statement M
 ledger-digest-spec = tie.close (tie.spec digest-requires enum-told enum-told-2 returns returns-2)

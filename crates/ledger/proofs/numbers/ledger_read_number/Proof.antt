@@ -2,8 +2,7 @@
 -- Assumes nothing.
 use mathlib.Core.Path.{ap}
 use borrow.Author.Needs.{needs}
-use Rattle.laws.specs.Told.{numberOf, placeOf}
-use Rattle.ledger.specs.Answers.{valueOr0, nextOr0}
+use Rattle.ledger.specs.Answers.{numberAnswer}
 use Rattle.ledger.proofs.numbers.ledger_read_number.Statement.{statement}
 use Rattle.ledger.proofs.numbers.ledger_read_number.Tie as tie
 
@@ -20,19 +19,13 @@ enum-told-2 : tie.Need-enum-told-2
 enum-told-2 c = search needs
 
 returns : tie.Need-returns
-returns c =
-    let told = rw (c .before .value .given .1) at (c .before .before .before .read .ensures) in
-    (ap numberOf told, (ap placeOf told, (ap valueOr0 told, ap nextOr0 told)))
+returns c = ap numberAnswer (rw (c .before .value .given .1) at (c .before .before .before .read .ensures))
 
 returns-2 : tie.Need-returns-2
-returns-2 c =
-    let told = rw (c .enum-told .given .1) at (c .before .before .read .ensures) in
-    (ap numberOf told, (ap placeOf told, (ap valueOr0 told, ap nextOr0 told)))
+returns-2 c = ap numberAnswer (rw (c .enum-told .given .1) at (c .before .before .read .ensures))
 
 returns-3 : tie.Need-returns-3
-returns-3 c =
-    let told = rw (c .enum-told2 .given .1) at (c .before .before .read .ensures) in
-    (ap numberOf told, (ap placeOf told, (ap valueOr0 told, ap nextOr0 told)))
+returns-3 c = ap numberAnswer (rw (c .enum-told2 .given .1) at (c .before .before .read .ensures))
 
 pub ledger-read-number-spec : {M : Type 1} → statement M
 ledger-read-number-spec =

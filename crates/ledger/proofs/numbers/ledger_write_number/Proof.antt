@@ -2,7 +2,7 @@
 -- Assumes nothing.
 use mathlib.Core.Path.{ap}
 use borrow.Author.Needs.{needs}
-use Rattle.laws.specs.Told.{givenOr, numberOf, placeOf}
+use Rattle.ledger.specs.Answers.{writeAnswer}
 use Rattle.ledger.proofs.numbers.ledger_write_number.Statement.{statement}
 use Rattle.ledger.proofs.numbers.ledger_write_number.Tie as tie
 
@@ -21,7 +21,7 @@ same-length c = search needs
 returns : tie.Need-returns
 returns c =
     let told = rw (c .before .next .given .1) at (c .before .before .before .before .before .write .ensures .0) in
-    (ap numberOf told, (ap placeOf told, (ap (givenOr 0) told, c .before .before .before .before .before .write .ensures .1)))
+    (ap writeAnswer told, c .before .before .before .before .before .write .ensures .1)
 
 same-length-2 : tie.Need-same-length-2
 same-length-2 c = search needs
@@ -29,7 +29,7 @@ same-length-2 c = search needs
 returns-2 : tie.Need-returns-2
 returns-2 c =
     let told = rw (c .enum-told .given .1) at (c .before .before .before .before .write .ensures .0) in
-    (ap numberOf told, (ap placeOf told, (ap (givenOr 0) told, c .before .before .before .before .write .ensures .1)))
+    (ap writeAnswer told, c .before .before .before .before .write .ensures .1)
 
 pub ledger-write-number-spec : {M : Type 1} → statement M
 ledger-write-number-spec =

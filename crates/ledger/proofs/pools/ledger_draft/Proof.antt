@@ -1,9 +1,7 @@
 -- `ledger::pools::ledger_draft` meets its contract.
 -- Assumes nothing.
-use mathlib.Core.Path.{ap, _∙_}
 use borrow.Author.Needs.{needs}
-use Rattle.laws.specs.Told.{givenOr}
-use Rattle.ledger.proofs.Crossing.{number-crosses, place-crosses}
+use Rattle.ledger.proofs.Crossing.{issue-answer}
 use Rattle.ledger.proofs.pools.ledger_draft.Statement.{statement}
 use Rattle.ledger.proofs.pools.ledger_draft.Tie as tie
 
@@ -21,14 +19,9 @@ same-length c = search needs
 
 returns : tie.Need-returns
 returns c =
-    let issue = c .before .before .before .before .draft in
-    let length = issue .result .length in
-    let answer = issue .result .answer in (
-      c .before .number-of .ensures ∙ number-crosses length answer (issue .ensures .0),
-      (
-        c .place-of .ensures ∙ place-crosses length answer (issue .ensures .0),
-        (issue .ensures .1 .0 ∙ ap (givenOr 0) (issue .ensures .0), issue .ensures .1 .1),
-      ),
+    let issue = c .before .before .before .before .draft in (
+      issue-answer _ (issue .result) (issue .ensures .0) (issue .ensures .1 .0) (c .before .number-of .ensures) (c .place-of .ensures),
+      issue .ensures .1 .1,
     )
 
 pub ledger-draft-spec : {M : Type 1} → statement M

@@ -19,10 +19,12 @@ returns : tie.Need-returns
 returns c =
     let offer = c .before .before .before .offer in
     let pool = offer .result .pool in
-    let answer = offer .result .answer in (
-      c .before .number-of .ensures ∙ number-crosses pool answer (offer .ensures .0),
-      (c .place-of .ensures ∙ place-crosses pool answer (offer .ensures .0), offer .ensures .1),
-    )
+    let answer = offer .result .answer in
+    λ i. record {
+      refusal = (c .before .number-of .ensures ∙ number-crosses pool answer (offer .ensures .0)) i;
+      place = (c .place-of .ensures ∙ place-crosses pool answer (offer .ensures .0)) i;
+      pool = offer .ensures .1 i;
+    }
 
 pub ledger-pool-order-spec : {M : Type 1} → statement M
 ledger-pool-order-spec =

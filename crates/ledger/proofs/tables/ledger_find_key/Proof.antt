@@ -2,7 +2,7 @@
 -- Assumes nothing.
 use mathlib.Core.Path.{ap}
 use borrow.Author.Needs.{needs}
-use Rattle.laws.specs.Told.{givenOr, numberOf, placeOf}
+use Rattle.ledger.specs.Answers.{keyAnswer}
 use Rattle.ledger.proofs.tables.ledger_find_key.Statement.{statement}
 use Rattle.ledger.proofs.tables.ledger_find_key.Tie as tie
 
@@ -16,14 +16,10 @@ enum-known-number : tie.Need-enum-known-number
 enum-known-number c = search needs
 
 returns : tie.Need-returns
-returns c =
-    let told = rw (c .before .«at» .given .1) at (c .before .before .before .find-key .ensures) in
-    (ap numberOf told, (ap placeOf told, ap (givenOr 0) told))
+returns c = ap keyAnswer (rw (c .before .«at» .given .1) at (c .before .before .before .find-key .ensures))
 
 returns-2 : tie.Need-returns-2
-returns-2 c =
-    let told = rw (c .before .number .given .1) at (c .before .before .before .find-key .ensures) in
-    (ap numberOf told, (ap placeOf told, ap (givenOr 0) told))
+returns-2 c = ap keyAnswer (rw (c .before .number .given .1) at (c .before .before .before .find-key .ensures))
 
 pub ledger-find-key-spec : {M : Type 1} → statement M
 ledger-find-key-spec =

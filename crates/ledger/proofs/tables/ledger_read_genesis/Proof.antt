@@ -2,7 +2,8 @@
 -- Assumes nothing.
 use mathlib.Core.Path.{ap}
 use borrow.Author.Needs.{needs}
-use Rattle.laws.specs.Told.{numberOf, placeOf}
+use Rattle.laws.specs.Told.{numberOf}
+use Rattle.ledger.specs.Answers.{blockPlace}
 use Rattle.ledger.proofs.tables.ledger_read_genesis.Statement.{statement}
 use Rattle.ledger.proofs.tables.ledger_read_genesis.Tie as tie
 
@@ -17,13 +18,15 @@ enum-told-2 c = search needs
 
 returns : tie.Need-returns
 returns c =
-    let told = rw (c .enum-told .given .1) at (c .before .before .before .read .ensures .0) in
-    (ap numberOf told, (ap placeOf told, c .before .before .before .read .ensures .1))
+    let read = c .before .before .before .read .ensures in
+    let told = rw (c .enum-told .given .1) at (read .0) in
+    λ i. record { refusal = numberOf (told i); place = blockPlace (told i); table = read .1 i }
 
 returns-2 : tie.Need-returns-2
 returns-2 c =
-    let told = rw (c .enum-told2 .given .1) at (c .before .before .before .read .ensures .0) in
-    (ap numberOf told, (ap placeOf told, c .before .before .before .read .ensures .1))
+    let read = c .before .before .before .read .ensures in
+    let told = rw (c .enum-told2 .given .1) at (read .0) in
+    λ i. record { refusal = numberOf (told i); place = blockPlace (told i); table = read .1 i }
 
 pub ledger-read-genesis-spec : {M : Type 1} → statement M
 ledger-read-genesis-spec =
