@@ -4,8 +4,8 @@
  * Every call answers for any bytes, any length and any number. An answer begins with the refusal's number, 0 where there is none, and its
  * place. Only ledger_turn and ledger_depth never refuse, and answer a number alone.
  *
- * Look at `refusal` first: the values beside a refusal mean nothing. They are zeros, but for the pool, which is as it came, and the place that a
- * walk has reached. A refusal leaves every lent buffer as it came, and bytes past what a call writes stay.
+ * Look at `refusal` first. Beside a refusal stand zeros, but for what the host keeps: the pool, and the length that ledger_adopt and ledger_append answer,
+ * are as they came, and so is the place that a walk has reached. A refusal leaves every lent buffer as it came, and bytes past what a call writes stay.
  *
  * The place is the failing block, counted from 1, for 3 to 10 in a delivered chain (ledger_check, ledger_choose, ledger_adopt) and for 17 in
  * the held one. Every other refusal has place 0, one of a single block too. The numbers that stand at a call are its refusals, in the order in
@@ -13,8 +13,7 @@
  *
  * `clock` is the slot that it is now; the comments call it now.
  *
- * A slice is a pointer and a length in bytes. The pointer is never NULL, not even where the length is 0: then it may point to any object. The
- * bytes are readable, and writable where it is not const. A buffer that a call writes shares no byte with the call's other slices. No call keeps
+ * A slice is a pointer and a length in bytes; where the length is 0 the pointer may be NULL. The bytes are readable, and writable where it is not const. A buffer that a call writes shares no byte with the call's other slices. No call keeps
  * a pointer, allocates, or has a state: calls from several threads need no lock.
  *
  * The held chain is the first `length` bytes of the buffer `held`, which has room for `held_room` bytes. The chain of no blocks is length 0 of
@@ -30,6 +29,9 @@
 #ifdef __cplusplus
 extern "C" {
 #endif
+
+/* The interface's version: it changes with every declaration of this header that changes. */
+#define LEDGER_VERSION 2
 
 /* Limits. */
 #define LEDGER_DISPLAYS 64           /* displays are 0 to 63 */
@@ -66,7 +68,7 @@ enum ledger_refusal {
     LEDGER_BAD_LINK = 9,       /* link wrong */
     LEDGER_BAD_ORDER = 10,     /* an order not valid at its point */
     LEDGER_NOT_LONGER = 11,    /* not more blocks than held */
-    LEDGER_NOT_ITS_TURN = 12,  /* controller not 1 to n, or not its turn */
+    LEDGER_WRONG_CONTROLLER = 12, /* controller not 1 to n, or not its turn */
     LEDGER_POOL_FULL = 13,     /* 64 entries still count */
     LEDGER_BAD_OFFER = 14,     /* new order not valid where it would stand */
     LEDGER_SHORT_BUFFER = 15,  /* lent output too short */
@@ -134,50 +136,50 @@ typedef struct {
     uint32_t t;
     uint32_t u;
     uint32_t releases[LEDGER_DISPLAYS]; /* the starting releases */
-    size_t keys;                        /* where the first key stands in the genesis bytes */
+    size_t keys_at;                     /* where the first key stands in the genesis bytes */
 } ledger_genesis;
 
 typedef struct {
     uint32_t refusal;
-    uint32_t place;
+    ledger_block_count place;
     uint32_t value;
     size_t next; /* the place after the number */
 } ledger_number_answer;
 
 typedef struct {
     uint32_t refusal;
-    uint32_t place;
+    ledger_block_count place;
     size_t next; /* the place after what was written: its length, if it was written from place 0 on */
 } ledger_write_answer;
 
 typedef struct {
     uint32_t refusal;
-    uint32_t place;
+    ledger_block_count place;
     uint8_t digest[LEDGER_DIGEST_BYTES];
 } ledger_digest_answer;
 
 typedef struct {
     uint32_t refusal;
-    uint32_t place;
+    ledger_block_count place;
     ledger_genesis table;
 } ledger_genesis_answer;
 
 typedef struct {
     uint32_t refusal;
-    uint32_t place;
+    ledger_block_count place;
     size_t at; /* where the key's 32 bytes begin in the genesis bytes */
 } ledger_key_answer;
 
 typedef struct {
     uint32_t refusal;
-    uint32_t place;
+    ledger_block_count place;
     size_t next; /* the place after the block */
     ledger_block block;
 } ledger_block_answer;
 
 typedef struct {
     uint32_t refusal;
-    uint32_t place;
+    ledger_block_count place;
     bool end;    /* no block is left: the block is zeros */
     size_t next; /* where the walk stands now; after the end and after a refusal where it stood */
     ledger_block block;
@@ -185,42 +187,42 @@ typedef struct {
 
 typedef struct {
     uint32_t refusal;
-    uint32_t place;
+    ledger_block_count place;
     ledger_block_count count;
     uint32_t releases[LEDGER_DISPLAYS]; /* after the last block */
 } ledger_check_answer;
 
 typedef struct {
     uint32_t refusal;
-    uint32_t place;
+    ledger_block_count place;
     bool delivered; /* the delivered chain is chosen; else the held one */
 } ledger_choose_answer;
 
 typedef struct {
     uint32_t refusal;
-    uint32_t place;
-    size_t length; /* the held chain's new length; on a refusal keep the old one */
-    ledger_block_count count;
+    ledger_block_count place;
+    size_t length; /* what to hold from then on: the held chain's new length, on a refusal the old one */
+    ledger_block_count count; /* of the adopted chain; 0 on a refusal */
 } ledger_adopt_answer;
 
 typedef struct {
     uint32_t refusal;
-    uint32_t place;
+    ledger_block_count place;
     ledger_pool pool; /* as it is then: as it came where the order was refused */
 } ledger_pool_answer;
 
 typedef struct {
     uint32_t refusal;
-    uint32_t place;
-    size_t length; /* of what was written; of append: the held chain's new length, and on a refusal keep the old one */
+    ledger_block_count place;
+    size_t length; /* of what was written, 0 on a refusal; of append what to hold from then on: the new length, on a refusal the old one */
 } ledger_issue_answer;
 
 typedef struct {
     uint32_t refusal;
-    uint32_t place;
+    ledger_block_count place;
     ledger_block_count held;
     ledger_block_count settled;
-    size_t length;                      /* of the settled blocks in bytes */
+    size_t settled_length;              /* of the settled blocks in bytes */
     uint32_t releases[LEDGER_DISPLAYS]; /* after the settled blocks */
 } ledger_report_answer;
 
@@ -228,7 +230,7 @@ typedef struct {
 ledger_number_answer ledger_read_number(const uint8_t *bytes, size_t bytes_length, size_t at);
 
 /* Writes a number at a place of a buffer: 15. */
-ledger_write_answer ledger_write_number(uint8_t *out, size_t out_length, size_t at, uint32_t value);
+ledger_write_answer ledger_write_number(uint32_t value, size_t at, uint8_t *out, size_t out_length);
 
 /* SHA-256: 16. */
 ledger_digest_answer ledger_digest(const uint8_t *message, size_t message_length);
@@ -249,10 +251,10 @@ uint64_t ledger_depth(ledger_genesis table);
 ledger_block_answer ledger_read_block(const uint8_t *bytes, size_t bytes_length, size_t at);
 
 /* Writes a block at a place of a buffer: 5, 15. */
-ledger_write_answer ledger_write_block(uint8_t *out, size_t out_length, size_t at, ledger_block block);
+ledger_write_answer ledger_write_block(ledger_block block, size_t at, uint8_t *out, size_t out_length);
 
 /* Writes the text of a slot that a host signs: 2, 15. */
-ledger_write_answer ledger_slot_text(uint8_t *out, size_t out_length, ledger_slot slot);
+ledger_write_answer ledger_slot_text(ledger_slot slot, uint8_t *out, size_t out_length);
 
 /* A step of a walk over a chain: the block at a place, or the end, or a refusal as for one block: 3, 4, 5. */
 ledger_step_answer ledger_walk_step(const uint8_t *chain, size_t chain_length, size_t at);
@@ -269,7 +271,7 @@ ledger_choose_answer ledger_choose(const uint8_t *genesis, size_t genesis_length
                                    const uint8_t *verdicts, size_t verdicts_length);
 
 /* Puts a delivered chain in the place of the held one if it has more blocks: 1, 2, 17, 16, the delivered blocks as in ledger_check, 11, 15.
-   On a refusal keep the old length: the held chain stays, and the answer's length is 0. */
+   The answer's length is what to hold from then on: the delivered chain's, or after a refusal the old one. */
 ledger_adopt_answer ledger_adopt(const uint8_t *genesis, size_t genesis_length, ledger_slot clock, uint8_t *held,
                                  size_t held_room, size_t length, const uint8_t *delivered, size_t delivered_length,
                                  const uint8_t *verdicts, size_t verdicts_length);
@@ -293,8 +295,8 @@ ledger_issue_answer ledger_block_text(const uint8_t *genesis, size_t genesis_len
                                       size_t held_room, size_t length, ledger_pool pool, uint32_t controller,
                                       ledger_signature slot_signature, uint8_t *out, size_t out_length);
 
-/* Writes the next block after the held chain: 1, 2, 17, 18, 12, 6, 15. On a refusal keep the old length: nothing was appended, and the answer's
-   length is 0. */
+/* Writes the next block after the held chain: 1, 2, 17, 18, 12, 6, 15. The answer's length is what to hold from then on: with the new block, or after a
+   refusal, when nothing was appended, the old one. */
 ledger_issue_answer ledger_append(const uint8_t *genesis, size_t genesis_length, ledger_slot clock, uint8_t *held,
                                   size_t held_room, size_t length, ledger_pool pool, uint32_t controller,
                                   ledger_signature slot_signature, ledger_signature block_signature);

@@ -15,12 +15,12 @@
 static int numbers(void) {
     uint8_t out[5];
     memset(out, FILLER, sizeof out);
-    ledger_write_answer written = ledger_write_number(out, sizeof out, 1, 300);
-    EXPECT(written.refusal == 0 && written.place == 0 && written.next == 3);
+    ledger_write_answer written = ledger_write_number(300, 1, out, sizeof out);
+    EXPECT(written.refusal == 0 && written.place.number == 0 && written.next == 3);
     EXPECT(memcmp(out, "\xEE\xAC\x02\xEE\xEE", 5) == 0);
     ledger_number_answer read = ledger_read_number(out, sizeof out, 1);
-    EXPECT(read.refusal == 0 && read.place == 0 && read.value == 300 && read.next == 3);
-    EXPECT(ledger_write_number(out, sizeof out, 1, UINT32_MAX).refusal == LEDGER_SHORT_BUFFER);
+    EXPECT(read.refusal == 0 && read.place.number == 0 && read.value == 300 && read.next == 3);
+    EXPECT(ledger_write_number(UINT32_MAX, 1, out, sizeof out).refusal == LEDGER_SHORT_BUFFER);
     EXPECT(ledger_read_number(out, 2, 1).refusal == LEDGER_CUT);
     EXPECT(ledger_read_number((const uint8_t *)"\x80", 2, 0).refusal == LEDGER_BAD_NUMBER);
     return 0;
@@ -30,9 +30,9 @@ static int numbers(void) {
 static int digests(void) {
     static uint8_t message[LEDGER_MESSAGE_BYTES + 1];
     ledger_digest_answer digested = ledger_digest(message, LEDGER_MESSAGE_BYTES);
-    EXPECT(digested.refusal == 0 && digested.place == 0 && sizeof digested.digest == LEDGER_LINK_BYTES);
+    EXPECT(digested.refusal == 0 && digested.place.number == 0 && sizeof digested.digest == LEDGER_LINK_BYTES);
     digested = ledger_digest(message, LEDGER_MESSAGE_BYTES + 1);
-    EXPECT(digested.refusal == LEDGER_TOO_LONG && digested.place == 0);
+    EXPECT(digested.refusal == LEDGER_TOO_LONG && digested.place.number == 0);
     return 0;
 }
 
@@ -40,14 +40,14 @@ static int tables(void) {
     uint8_t genesis[LEDGER_GENESIS_BYTES];
     size_t length = genesis_of(genesis);
     ledger_genesis_answer read = ledger_read_genesis(genesis, length);
-    EXPECT(read.refusal == 0 && read.place == 0);
+    EXPECT(read.refusal == 0 && read.place.number == 0);
     EXPECT(read.table.n == 6 && read.table.t == 1 && read.table.u == 5);
     EXPECT(read.table.releases[1] == 0 && read.table.releases[2] == 40 && read.table.releases[63] == 0);
-    EXPECT(read.table.keys == length - 6 * LEDGER_KEY_BYTES);
+    EXPECT(read.table.keys_at == length - 6 * LEDGER_KEY_BYTES);
     EXPECT(ledger_read_genesis(genesis, length - 1).refusal == LEDGER_BAD_GENESIS);
     ledger_key_answer key = ledger_find_key(genesis, length, 6);
-    EXPECT(key.refusal == 0 && key.place == 0 && key.at == length - LEDGER_KEY_BYTES && genesis[key.at] == 6);
-    EXPECT(ledger_find_key(genesis, length, 7).refusal == LEDGER_NOT_ITS_TURN);
+    EXPECT(key.refusal == 0 && key.place.number == 0 && key.at == length - LEDGER_KEY_BYTES && genesis[key.at] == 6);
+    EXPECT(ledger_find_key(genesis, length, 7).refusal == LEDGER_WRONG_CONTROLLER);
     EXPECT(ledger_turn(read.table, (ledger_slot){7}) == 1);
     EXPECT(ledger_turn(read.table, (ledger_slot){256}) == 4);
     EXPECT(ledger_turn(read.table, (ledger_slot){0}) == 1);
@@ -60,36 +60,36 @@ static int blocks(void) {
     memset(out, FILLER, sizeof out);
     ledger_block block = block_after((const uint8_t *)"abc", 3, 256, 40);
     EXPECT(memcmp(block.front.link, "\xBA\x78\x16\xBF", 4) == 0);
-    ledger_write_answer written = ledger_write_block(out, sizeof out, 3, block);
-    EXPECT(written.refusal == 0 && written.place == 0 && written.next == 169);
+    ledger_write_answer written = ledger_write_block(block, 3, out, sizeof out);
+    EXPECT(written.refusal == 0 && written.place.number == 0 && written.next == 169);
     EXPECT(out[2] == FILLER && out[3] == 0xBA && out[168] == 0xB1 && out[169] == FILLER);
     EXPECT(memcmp(out + 35, "\x01\x02\x28\x29\x80\x02\x51", 7) == 0);
     ledger_block_answer read = ledger_read_block(out, sizeof out, 3);
-    EXPECT(read.refusal == 0 && read.place == 0 && read.next == 169);
+    EXPECT(read.refusal == 0 && read.place.number == 0 && read.next == 169);
     EXPECT(memcmp(&read.block, &block, sizeof block) == 0);
     EXPECT(ledger_read_block(out, 100, 3).refusal == LEDGER_CUT);
     block.front.orders.list[0].display = LEDGER_DISPLAYS;
-    EXPECT(ledger_write_block(out, sizeof out, 3, block).refusal == LEDGER_OUT_OF_RANGE);
-    written = ledger_slot_text(out, LEDGER_SLOT_TEXT_BYTES, (ledger_slot){256});
-    EXPECT(written.refusal == 0 && written.place == 0 && written.next == 6);
+    EXPECT(ledger_write_block(block, 3, out, sizeof out).refusal == LEDGER_OUT_OF_RANGE);
+    written = ledger_slot_text((ledger_slot){256}, out, LEDGER_SLOT_TEXT_BYTES);
+    EXPECT(written.refusal == 0 && written.place.number == 0 && written.next == 6);
     EXPECT(memcmp(out, "slot\x80\x02", 6) == 0);
-    EXPECT(ledger_slot_text(out, sizeof out, (ledger_slot){0}).refusal == LEDGER_BAD_CLOCK);
+    EXPECT(ledger_slot_text((ledger_slot){0}, out, sizeof out).refusal == LEDGER_BAD_CLOCK);
     return 0;
 }
 
 static int checks(const struct chain *c) {
     const ledger_slot now = {20};
     ledger_check_answer checked = ledger_check(c->genesis, c->genesis_length, now, c->bytes, c->length, (const uint8_t *)"\3\3", 2);
-    EXPECT(checked.refusal == 0 && checked.place == 0 && checked.count.number == 2);
+    EXPECT(checked.refusal == 0 && checked.place.number == 0 && checked.count.number == 2);
     EXPECT(checked.releases[0] == 0 && checked.releases[2] == 42 && checked.releases[63] == 0);
     checked = ledger_check(c->genesis, c->genesis_length, now, c->bytes, c->length, (const uint8_t *)"\3\2", 2);
-    EXPECT(checked.refusal == LEDGER_BAD_VERDICT && checked.place == 2 && checked.count.number == 0);
+    EXPECT(checked.refusal == LEDGER_BAD_VERDICT && checked.place.number == 2 && checked.count.number == 0);
     checked = ledger_check(c->genesis, c->genesis_length, now, c->bytes, c->length, (const uint8_t *)"\3\3", 1);
-    EXPECT(checked.refusal == LEDGER_BAD_VERDICT && checked.place == 2);
+    EXPECT(checked.refusal == LEDGER_BAD_VERDICT && checked.place.number == 2);
     checked = ledger_check(c->genesis, c->genesis_length, now, c->bytes, c->length, (const uint8_t *)"\3\3\2", 3);
     EXPECT(checked.refusal == 0 && checked.count.number == 2);
     ledger_step_answer step = ledger_walk_step(c->bytes, c->length, c->first);
-    EXPECT(step.refusal == 0 && step.place == 0 && !step.end && step.next == c->length);
+    EXPECT(step.refusal == 0 && step.place.number == 0 && !step.end && step.next == c->length);
     EXPECT(step.block.front.slot.number == 3 && step.block.block_signature[63] == 0xB1);
     step = ledger_walk_step(c->bytes, c->length, step.next);
     EXPECT(step.refusal == 0 && step.end && step.next == c->length);
@@ -103,21 +103,21 @@ static int adopts(const struct chain *c) {
     const uint8_t verdicts[2] = {LEDGER_GOOD_VERDICT, LEDGER_GOOD_VERDICT};
     ledger_choose_answer shown =
         ledger_choose(c->genesis, c->genesis_length, now, c->bytes, c->first, c->bytes, c->length, verdicts, 2);
-    EXPECT(shown.refusal == 0 && shown.place == 0 && shown.delivered);
+    EXPECT(shown.refusal == 0 && shown.place.number == 0 && shown.delivered);
     shown = ledger_choose(c->genesis, c->genesis_length, now, c->bytes, c->length, c->bytes, c->first, verdicts, 2);
-    EXPECT(shown.refusal == LEDGER_NOT_LONGER && shown.place == 0 && !shown.delivered);
+    EXPECT(shown.refusal == LEDGER_NOT_LONGER && shown.place.number == 0 && !shown.delivered);
     uint8_t held[2 * LEDGER_BLOCK_BYTES];
     memset(held, FILLER, sizeof held);
     memcpy(held, c->bytes, c->first);
     ledger_adopt_answer adopted = ledger_adopt(c->genesis, c->genesis_length, now, held, c->length - 1, c->first, c->bytes, c->length,
                                                verdicts, 2);
-    EXPECT(adopted.refusal == LEDGER_SHORT_BUFFER && held[c->first] == FILLER);
+    EXPECT(adopted.refusal == LEDGER_SHORT_BUFFER && adopted.length == c->first && held[c->first] == FILLER);
     adopted = ledger_adopt(c->genesis, c->genesis_length, now, held, sizeof held, c->first, c->bytes, c->length, verdicts, 2);
-    EXPECT(adopted.refusal == 0 && adopted.place == 0 && adopted.length == c->length && adopted.count.number == 2);
+    EXPECT(adopted.refusal == 0 && adopted.place.number == 0 && adopted.length == c->length && adopted.count.number == 2);
     EXPECT(memcmp(held, c->bytes, c->length) == 0 && held[c->length] == FILLER);
     held[c->first] ^= 1;
     adopted = ledger_adopt(c->genesis, c->genesis_length, now, held, sizeof held, c->length, c->bytes, c->length, verdicts, 2);
-    EXPECT(adopted.refusal == LEDGER_BAD_HELD && adopted.place == 2 && adopted.length == 0);
+    EXPECT(adopted.refusal == LEDGER_BAD_HELD && adopted.place.number == 2 && adopted.length == c->length);
     return 0;
 }
 
@@ -131,7 +131,7 @@ static int issues(const struct chain *c) {
     memset(&pool, 0, sizeof pool);
     ledger_order order = {.display = 2, .expected = 42, .new_release = 300};
     ledger_pool_answer pooled = ledger_pool_order(c->genesis, c->genesis_length, now, held, sizeof held, c->length, pool, order);
-    EXPECT(pooled.refusal == 0 && pooled.place == 0 && pooled.pool.count == 1);
+    EXPECT(pooled.refusal == 0 && pooled.place.number == 0 && pooled.pool.count == 1);
     EXPECT(memcmp(&pooled.pool.entries[0].order, &order, sizeof order) == 0 && pooled.pool.entries[0].slot.number == 20);
     pool = pooled.pool;
     pooled = ledger_pool_order(c->genesis, c->genesis_length, now, held, sizeof held, c->length, pool, order);
@@ -140,17 +140,17 @@ static int issues(const struct chain *c) {
     memset(&first, 0x51, sizeof first);
     memset(&second, 0xB1, sizeof second);
     ledger_issue_answer issued = ledger_draft(c->genesis, c->genesis_length, now, held, sizeof held, c->length, pool, 2, first, draft, sizeof draft);
-    EXPECT(issued.refusal == 0 && issued.place == 0 && issued.length == 32 + 5 + 1 + 64);
+    EXPECT(issued.refusal == 0 && issued.place.number == 0 && issued.length == 32 + 5 + 1 + 64);
     EXPECT(memcmp(draft + 32, "\x01\x02\x2A\xAC\x02\x14\x51", 7) == 0 && draft[issued.length - 1] == 0x51);
     issued = ledger_block_text(c->genesis, c->genesis_length, now, held, sizeof held, c->length, pool, 2, first, text, sizeof text);
     EXPECT(issued.refusal == 0 && issued.length == 5 + 102);
     EXPECT(memcmp(text, "block", 5) == 0 && memcmp(text + 5, draft, 102) == 0);
     issued = ledger_draft(c->genesis, c->genesis_length, now, held, sizeof held, c->length, pool, 3, first, draft, sizeof draft);
-    EXPECT(issued.refusal == LEDGER_NOT_ITS_TURN && issued.length == 0);
+    EXPECT(issued.refusal == LEDGER_WRONG_CONTROLLER && issued.length == 0);
     issued = ledger_append(c->genesis, c->genesis_length, now, held, sizeof held, c->length, pool, 3, first, second);
-    EXPECT(issued.refusal == LEDGER_NOT_ITS_TURN && issued.length == 0 && held[c->length] == FILLER);
+    EXPECT(issued.refusal == LEDGER_WRONG_CONTROLLER && issued.length == c->length && held[c->length] == FILLER);
     issued = ledger_append(c->genesis, c->genesis_length, now, held, sizeof held, c->length, pool, 2, first, second);
-    EXPECT(issued.refusal == 0 && issued.place == 0 && issued.length == c->length + 102 + 64);
+    EXPECT(issued.refusal == 0 && issued.place.number == 0 && issued.length == c->length + 102 + 64);
     EXPECT(memcmp(held + c->length, draft, 102) == 0 && held[issued.length - 1] == 0xB1 && held[issued.length] == FILLER);
     return 0;
 }
@@ -159,13 +159,13 @@ static int issues(const struct chain *c) {
 static int reports(const struct chain *c) {
     ledger_report_answer report =
         ledger_report(c->genesis, c->genesis_length, (ledger_slot){7}, c->bytes, sizeof c->bytes, c->length);
-    EXPECT(report.refusal == 0 && report.place == 0);
-    EXPECT(report.held.number == 2 && report.settled.number == 1 && report.length == c->first);
+    EXPECT(report.refusal == 0 && report.place.number == 0);
+    EXPECT(report.held.number == 2 && report.settled.number == 1 && report.settled_length == c->first);
     EXPECT(report.releases[1] == 0 && report.releases[2] == 41 && report.releases[63] == 0);
     report = ledger_report(c->genesis, c->genesis_length, (ledger_slot){2}, c->bytes, sizeof c->bytes, c->length);
-    EXPECT(report.refusal == LEDGER_BAD_HELD && report.place == 2 && report.held.number == 0);
+    EXPECT(report.refusal == LEDGER_BAD_HELD && report.place.number == 2 && report.held.number == 0);
     report = ledger_report(c->genesis, c->genesis_length, (ledger_slot){7}, c->bytes, sizeof c->bytes, sizeof c->bytes + 1);
-    EXPECT(report.refusal == LEDGER_BAD_HELD && report.place == 0);
+    EXPECT(report.refusal == LEDGER_BAD_HELD && report.place.number == 0);
     report = ledger_report(c->genesis, c->genesis_length, (ledger_slot){7}, c->bytes, sizeof c->bytes, 0);
     EXPECT(report.refusal == 0 && report.held.number == 0 && report.releases[2] == 40);
     return 0;

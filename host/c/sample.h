@@ -11,9 +11,9 @@ static inline size_t genesis_of(uint8_t out[LEDGER_GENESIS_BYTES]) {
     size_t at = 0;
     const uint32_t head[3] = {6, 1, 5};
     for (int i = 0; i < 3; i++)
-        at = ledger_write_number(out, LEDGER_GENESIS_BYTES, at, head[i]).next;
+        at = ledger_write_number(head[i], at, out, LEDGER_GENESIS_BYTES).next;
     for (int display = 0; display < LEDGER_DISPLAYS; display++)
-        at = ledger_write_number(out, LEDGER_GENESIS_BYTES, at, display == 2 ? 40 : 0).next;
+        at = ledger_write_number(display == 2 ? 40 : 0, at, out, LEDGER_GENESIS_BYTES).next;
     for (int controller = 1; controller <= 6; controller++, at += LEDGER_KEY_BYTES)
         memset(out + at, controller, LEDGER_KEY_BYTES);
     return at;
@@ -44,9 +44,9 @@ struct chain {
 static inline void chain_of(struct chain *c) {
     c->genesis_length = genesis_of(c->genesis);
     ledger_block block = block_after(c->genesis, c->genesis_length, 1, 40);
-    c->first = ledger_write_block(c->bytes, sizeof c->bytes, 0, block).next;
+    c->first = ledger_write_block(block, 0, c->bytes, sizeof c->bytes).next;
     block = block_after(c->bytes, c->first, 3, 41);
-    c->length = ledger_write_block(c->bytes, sizeof c->bytes, c->first, block).next;
+    c->length = ledger_write_block(block, c->first, c->bytes, sizeof c->bytes).next;
 }
 
 #endif

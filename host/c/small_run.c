@@ -48,8 +48,8 @@ static void line(const controller *c, ledger_slot now) {
 }
 
 static void put_number(uint32_t value) {
-    ledger_write_answer written = ledger_write_number(genesis, sizeof genesis, genesis_length, value);
-    accepted("genesis number", written.refusal, written.place);
+    ledger_write_answer written = ledger_write_number(value, genesis_length, genesis, sizeof genesis);
+    accepted("genesis number", written.refusal, written.place.number);
     genesis_length = written.next;
 }
 
@@ -63,18 +63,18 @@ static void make_genesis(void) {
     for (uint8_t number = 1; number <= CONTROLLERS; number++, genesis_length += LEDGER_KEY_BYTES)
         memset(genesis + genesis_length, number, LEDGER_KEY_BYTES);
     ledger_genesis_answer read = ledger_read_genesis(genesis, genesis_length);
-    accepted("genesis", read.refusal, read.place);
+    accepted("genesis", read.refusal, read.place.number);
 }
 
 /* Stands in for the host's signing: the digest of key and text, twice. Nobody may sign like this: the key is in the genesis. */
 static ledger_signature sign(uint32_t number, const uint8_t *text, size_t length) {
     uint8_t message[LEDGER_KEY_BYTES + LEDGER_BLOCK_TEXT_BYTES];
     ledger_key_answer key = ledger_find_key(genesis, genesis_length, number);
-    accepted("key", key.refusal, key.place);
+    accepted("key", key.refusal, key.place.number);
     memcpy(message, genesis + key.at, LEDGER_KEY_BYTES);
     memcpy(message + LEDGER_KEY_BYTES, text, length);
     ledger_digest_answer digested = ledger_digest(message, LEDGER_KEY_BYTES + length);
-    accepted("digest", digested.refusal, digested.place);
+    accepted("digest", digested.refusal, digested.place.number);
     ledger_signature signature;
     memcpy(signature.bytes, digested.digest, LEDGER_DIGEST_BYTES);
     memcpy(signature.bytes + LEDGER_DIGEST_BYTES, digested.digest, LEDGER_DIGEST_BYTES);
@@ -83,15 +83,15 @@ static ledger_signature sign(uint32_t number, const uint8_t *text, size_t length
 
 static ledger_signature sign_slot(uint32_t number, ledger_slot slot) {
     uint8_t text[LEDGER_SLOT_TEXT_BYTES];
-    ledger_write_answer written = ledger_slot_text(text, sizeof text, slot);
-    accepted("slot text", written.refusal, written.place);
+    ledger_write_answer written = ledger_slot_text(slot, text, sizeof text);
+    accepted("slot text", written.refusal, written.place.number);
     return sign(number, text, written.next);
 }
 
 /* The verdict on a block, read from these bytes: do both signatures verify under the key whose turn the slot is? */
 static uint8_t verdict(const ledger_block *block, const uint8_t *bytes, size_t length) {
     ledger_genesis_answer read = ledger_read_genesis(genesis, genesis_length);
-    accepted("genesis", read.refusal, read.place);
+    accepted("genesis", read.refusal, read.place.number);
     uint32_t turn = ledger_turn(read.table, block->front.slot);
     ledger_signature slot_signature = sign_slot(turn, block->front.slot);
     uint8_t text[LEDGER_BLOCK_TEXT_BYTES] = "block";
@@ -124,7 +124,7 @@ static void deliver(controller *to, const controller *from, ledger_slot now) {
     uint8_t verdicts[LEDGER_SLOTS];
     size_t count = judge(from->held, from->length, verdicts);
     ledger_check_answer checked = ledger_check(genesis, genesis_length, now, from->held, from->length, verdicts, count);
-    accepted("check", checked.refusal, checked.place);
+    accepted("check", checked.refusal, checked.place.number);
     line(to, now);
     printf("checks %zu bytes: %" PRIu32 " blocks, display %d at %" PRIu32 "\n", from->length, checked.count.number, DISPLAY,
            checked.releases[DISPLAY]);
@@ -132,10 +132,10 @@ static void deliver(controller *to, const controller *from, ledger_slot now) {
         ledger_adopt(genesis, genesis_length, now, to->held, sizeof to->held, to->length, from->held, from->length, verdicts, count);
     line(to, now);
     if (adopted.refusal == LEDGER_NOT_LONGER) {
-        printf("keeps what it holds: refused %" PRIu32 " %" PRIu32 "\n", adopted.refusal, adopted.place);
+        printf("keeps what it holds: refused %" PRIu32 " %" PRIu32 "\n", adopted.refusal, adopted.place.number);
         return;
     }
-    accepted("adopt", adopted.refusal, adopted.place);
+    accepted("adopt", adopted.refusal, adopted.place.number);
     to->length = adopted.length;
     printf("adopts them and holds %" PRIu32 " blocks\n", adopted.count.number);
 }
@@ -144,7 +144,7 @@ static void deliver(controller *to, const controller *from, ledger_slot now) {
 static void offer(controller *to, ledger_slot now, uint32_t expected, uint32_t new_release) {
     ledger_order order = {.display = DISPLAY, .expected = expected, .new_release = new_release};
     ledger_pool_answer pooled = ledger_pool_order(genesis, genesis_length, now, to->held, sizeof to->held, to->length, to->pool, order);
-    accepted("pool", pooled.refusal, pooled.place);
+    accepted("pool", pooled.refusal, pooled.place.number);
     to->pool = pooled.pool;
     line(to, now);
     printf("pools display %d from %" PRIu32 " to %" PRIu32 "\n", DISPLAY, expected, new_release);
@@ -156,10 +156,10 @@ static ledger_signature sign_block(const controller *c, ledger_slot now, ledger_
     uint8_t text[LEDGER_BLOCK_TEXT_BYTES];
     ledger_issue_answer drafted = ledger_draft(genesis, genesis_length, now, c->held, sizeof c->held, c->length, c->pool, c->number,
                                                slot_signature, draft, sizeof draft);
-    accepted("draft", drafted.refusal, drafted.place);
+    accepted("draft", drafted.refusal, drafted.place.number);
     ledger_issue_answer written = ledger_block_text(genesis, genesis_length, now, c->held, sizeof c->held, c->length, c->pool, c->number,
                                                     slot_signature, text, sizeof text);
-    accepted("block text", written.refusal, written.place);
+    accepted("block text", written.refusal, written.place.number);
     same("draft and block text", draft, drafted.length, text + 5, written.length - 5);
     return sign(c->number, text, written.length);
 }
@@ -169,7 +169,7 @@ static void issue(controller *c, ledger_slot now) {
     ledger_signature block_signature = sign_block(c, now, slot_signature);
     ledger_issue_answer issued = ledger_append(genesis, genesis_length, now, c->held, sizeof c->held, c->length, c->pool, c->number,
                                                slot_signature, block_signature);
-    accepted("append", issued.refusal, issued.place);
+    accepted("append", issued.refusal, issued.place.number);
     line(c, now);
     printf("issues a block of %zu bytes and holds %zu bytes\n", issued.length - c->length, issued.length);
     c->length = issued.length;
@@ -178,7 +178,7 @@ static void issue(controller *c, ledger_slot now) {
 /* What the displays are to boot, as far as it is settled. */
 static ledger_report_answer report(const controller *c, ledger_slot now) {
     ledger_report_answer told = ledger_report(genesis, genesis_length, now, c->held, sizeof c->held, c->length);
-    accepted("report", told.refusal, told.place);
+    accepted("report", told.refusal, told.place.number);
     line(c, now);
     printf("reports %" PRIu32 " held, %" PRIu32 " settled, display %d is to boot %" PRIu32 "\n", told.held.number, told.settled.number, DISPLAY,
            told.releases[DISPLAY]);
@@ -189,7 +189,7 @@ static ledger_report_answer report(const controller *c, ledger_slot now) {
 static void reports(ledger_slot now) {
     ledger_report_answer first = report(&one, now);
     ledger_report_answer second = report(&two, now);
-    same("settled blocks", one.held, first.length, two.held, second.length);
+    same("settled blocks", one.held, first.settled_length, two.held, second.settled_length);
     same("settled releases", first.releases, sizeof first.releases, second.releases, sizeof second.releases);
 }
 

@@ -28,15 +28,15 @@ static volatile uint32_t refusal;
 #define HELD held, sizeof held, sample.length
 
 static void read_number(void) { refusal = ledger_read_number(G, 0).refusal; }
-static void write_number(void) { refusal = ledger_write_number(out, sizeof out, 0, 300).refusal; }
+static void write_number(void) { refusal = ledger_write_number(300, 0, out, sizeof out).refusal; }
 static void digest(void) { refusal = ledger_digest(G).refusal; }
 static void read_genesis(void) { refusal = ledger_read_genesis(G).refusal; }
 static void find_key(void) { refusal = ledger_find_key(G, 6).refusal; }
 static void turn(void) { refusal = ledger_turn(table, now) - 2; }
 static void depth(void) { refusal = (uint32_t)ledger_depth(table) - 4; }
 static void read_block(void) { refusal = ledger_read_block(sample.bytes, sample.length, 0).refusal; }
-static void write_block(void) { refusal = ledger_write_block(out, sizeof out, 0, block).refusal; }
-static void slot_text(void) { refusal = ledger_slot_text(out, sizeof out, now).refusal; }
+static void write_block(void) { refusal = ledger_write_block(block, 0, out, sizeof out).refusal; }
+static void slot_text(void) { refusal = ledger_slot_text(now, out, sizeof out).refusal; }
 static void walk_step(void) { refusal = ledger_walk_step(sample.bytes, sample.length, 0).refusal; }
 static void check(void) { refusal = ledger_check(G, now, sample.bytes, sample.length, verdicts, 2).refusal; }
 static void choose(void) { refusal = ledger_choose(G, now, held, sample.first, sample.bytes, sample.length, verdicts, 2).refusal; }

@@ -72,7 +72,7 @@ pub fn read_genesis(bytes: &[u8]) -> Answer<Table> {
 fn same_table(table: Table, bytes: &[u8], other: &Genesis) {
     assert_eq!((table.n, table.t, table.u), (other.n, other.t, other.u));
     assert_eq!(table.releases, other.releases);
-    assert_eq!(&bytes[table.keys..], other.keys.as_flattened());
+    assert_eq!(&bytes[table.keys_at..], other.keys.as_flattened());
     for slot in [1, 2, 7, 31, 256, 257, u32::MAX].map(Slot) {
         assert_eq!(proved::turn(table, slot), other.turn(slot));
     }

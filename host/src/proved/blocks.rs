@@ -9,28 +9,28 @@ pub fn read_block(bytes: &[u8], at: usize) -> Result<(Block, usize), Refusal> {
     let answer = raw::ledger_read_block(bytes, at);
     told(
         answer.refusal,
-        answer.place,
+        answer.place.0,
         (taken(&answer.block), answer.next),
     )
 }
 
 /// Writes a block at a place of a buffer and gives the place after it.
 pub fn write_block(block: &Block, buffer: &mut [u8], at: usize) -> Result<usize, Refusal> {
-    let answer = raw::ledger_write_block(buffer, at, lent(block));
-    told(answer.refusal, answer.place, answer.next)
+    let answer = raw::ledger_write_block(lent(block), at, buffer);
+    told(answer.refusal, answer.place.0, answer.next)
 }
 
 /// Writes the text of a slot that a host signs and gives its length.
 pub fn slot_text(slot: Slot, buffer: &mut [u8]) -> Result<usize, Refusal> {
-    let answer = raw::ledger_slot_text(buffer, raw::Slot(slot.0));
-    told(answer.refusal, answer.place, answer.next)
+    let answer = raw::ledger_slot_text(raw::Slot(slot.0), buffer);
+    told(answer.refusal, answer.place.0, answer.next)
 }
 
 /// The block at a place of a chain and the place after it, or the end.
 pub fn walk_step(chain: &[u8], at: usize) -> Result<Option<(Block, usize)>, Refusal> {
     let answer = raw::ledger_walk_step(chain, at);
     let block = (!answer.end).then(|| (taken(&answer.block), answer.next));
-    told(answer.refusal, answer.place, block)
+    told(answer.refusal, answer.place.0, block)
 }
 
 /// A block as it crosses. More orders than eight are left out, not their count.

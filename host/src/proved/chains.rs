@@ -13,7 +13,7 @@ pub fn check(
 ) -> Result<(BlockCount, Releases), Refusal> {
     let answer = raw::ledger_check(genesis, raw::Slot(now.0), chain, verdicts);
     let value = (BlockCount(answer.count.0), answer.releases);
-    told(answer.refusal, answer.place, value)
+    told(answer.refusal, answer.place.0, value)
 }
 
 /// Shows the delivered chain exactly if it is accepted, else the held one with the refusal.
@@ -26,7 +26,7 @@ pub fn choose<'a>(
 ) -> (&'a [u8], Option<Refusal>) {
     let answer = raw::ledger_choose(genesis, raw::Slot(now.0), held, delivered, verdicts);
     let shown = if answer.delivered { delivered } else { held };
-    (shown, told(answer.refusal, answer.place, ()).err())
+    (shown, told(answer.refusal, answer.place.0, ()).err())
 }
 
 /// Adopts a delivered chain: the held chain's new length, and its block count.
@@ -47,7 +47,7 @@ pub fn adopt(
         verdicts,
     );
     let value = (answer.length, BlockCount(answer.count.0));
-    told(answer.refusal, answer.place, value)
+    told(answer.refusal, answer.place.0, value)
 }
 
 /// Reports on the held chain.
@@ -61,10 +61,10 @@ pub fn report(
     let value = Report {
         held: BlockCount(answer.held.0),
         settled: BlockCount(answer.settled.0),
-        settled_length: answer.length,
+        settled_length: answer.settled_length,
         releases: answer.releases,
     };
-    told(answer.refusal, answer.place, value)
+    told(answer.refusal, answer.place.0, value)
 }
 
 #[cfg(test)]

@@ -5,19 +5,19 @@ use crate::second::Refusal;
 /// The number at a place, and the place after it.
 pub fn read_number(bytes: &[u8], at: usize) -> Result<(u32, usize), Refusal> {
     let answer = raw::ledger_read_number(bytes, at);
-    told(answer.refusal, answer.place, (answer.value, answer.next))
+    told(answer.refusal, answer.place.0, (answer.value, answer.next))
 }
 
 /// Writes a number at a place of a buffer and gives the place after it.
 pub fn write_number(value: u32, buffer: &mut [u8], at: usize) -> Result<usize, Refusal> {
-    let answer = raw::ledger_write_number(buffer, at, value);
-    told(answer.refusal, answer.place, answer.next)
+    let answer = raw::ledger_write_number(value, at, buffer);
+    told(answer.refusal, answer.place.0, answer.next)
 }
 
 /// SHA-256 of a slice.
 pub fn digest(message: &[u8]) -> Result<[u8; 32], Refusal> {
     let answer = raw::ledger_digest(message);
-    told(answer.refusal, answer.place, answer.digest)
+    told(answer.refusal, answer.place.0, answer.digest)
 }
 
 #[cfg(test)]

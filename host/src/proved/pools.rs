@@ -24,7 +24,7 @@ pub fn offer(
         lent_order(&order),
     );
     *pool = taken(&answer.pool);
-    told(answer.refusal, answer.place, ())
+    told(answer.refusal, answer.place.0, ())
 }
 
 type Writing = fn(
@@ -55,7 +55,7 @@ fn write(
         raw::Signature(issue.slot_signature),
         buffer,
     );
-    told(answer.refusal, answer.place, answer.length)
+    told(answer.refusal, answer.place.0, answer.length)
 }
 
 /// Writes the next block without its last 64 bytes and gives the length.
@@ -95,7 +95,7 @@ pub fn append(
         raw::Signature(issue.slot_signature),
         raw::Signature(block_signature),
     );
-    told(answer.refusal, answer.place, answer.length)
+    told(answer.refusal, answer.place.0, answer.length)
 }
 
 /// A pool as it crosses.

@@ -47,7 +47,7 @@ pub struct Genesis {
     pub u: u32,
     pub releases: [u32; 64],
     /// Where the first key stands in the genesis bytes.
-    pub keys: usize,
+    pub keys_at: usize,
 }
 
 #[repr(C)]
@@ -72,7 +72,7 @@ pub struct Signature(pub [u8; 64]);
 #[derive(Debug, PartialEq, Eq)]
 pub struct NumberAnswer {
     pub refusal: u32,
-    pub place: u32,
+    pub place: BlockCount,
     pub value: u32,
     pub next: usize,
 }
@@ -81,7 +81,7 @@ pub struct NumberAnswer {
 #[derive(Debug, PartialEq, Eq)]
 pub struct WriteAnswer {
     pub refusal: u32,
-    pub place: u32,
+    pub place: BlockCount,
     pub next: usize,
 }
 
@@ -89,7 +89,7 @@ pub struct WriteAnswer {
 #[derive(Debug, PartialEq, Eq)]
 pub struct DigestAnswer {
     pub refusal: u32,
-    pub place: u32,
+    pub place: BlockCount,
     pub digest: [u8; 32],
 }
 
@@ -97,7 +97,7 @@ pub struct DigestAnswer {
 #[derive(Debug, PartialEq, Eq)]
 pub struct GenesisAnswer {
     pub refusal: u32,
-    pub place: u32,
+    pub place: BlockCount,
     pub table: Genesis,
 }
 
@@ -105,7 +105,7 @@ pub struct GenesisAnswer {
 #[derive(Debug, PartialEq, Eq)]
 pub struct KeyAnswer {
     pub refusal: u32,
-    pub place: u32,
+    pub place: BlockCount,
     pub at: usize,
 }
 
@@ -113,7 +113,7 @@ pub struct KeyAnswer {
 #[derive(Debug, PartialEq, Eq)]
 pub struct BlockAnswer {
     pub refusal: u32,
-    pub place: u32,
+    pub place: BlockCount,
     pub next: usize,
     pub block: Block,
 }
@@ -122,7 +122,7 @@ pub struct BlockAnswer {
 #[derive(Debug, PartialEq, Eq)]
 pub struct StepAnswer {
     pub refusal: u32,
-    pub place: u32,
+    pub place: BlockCount,
     pub end: bool,
     pub next: usize,
     pub block: Block,
@@ -132,7 +132,7 @@ pub struct StepAnswer {
 #[derive(Debug, PartialEq, Eq)]
 pub struct CheckAnswer {
     pub refusal: u32,
-    pub place: u32,
+    pub place: BlockCount,
     pub count: BlockCount,
     pub releases: [u32; 64],
 }
@@ -141,7 +141,7 @@ pub struct CheckAnswer {
 #[derive(Debug, PartialEq, Eq)]
 pub struct ChooseAnswer {
     pub refusal: u32,
-    pub place: u32,
+    pub place: BlockCount,
     pub delivered: bool,
 }
 
@@ -149,7 +149,7 @@ pub struct ChooseAnswer {
 #[derive(Debug, PartialEq, Eq)]
 pub struct AdoptAnswer {
     pub refusal: u32,
-    pub place: u32,
+    pub place: BlockCount,
     pub length: usize,
     pub count: BlockCount,
 }
@@ -158,7 +158,7 @@ pub struct AdoptAnswer {
 #[derive(Debug, PartialEq, Eq)]
 pub struct PoolAnswer {
     pub refusal: u32,
-    pub place: u32,
+    pub place: BlockCount,
     pub pool: Pool,
 }
 
@@ -166,7 +166,7 @@ pub struct PoolAnswer {
 #[derive(Debug, PartialEq, Eq)]
 pub struct IssueAnswer {
     pub refusal: u32,
-    pub place: u32,
+    pub place: BlockCount,
     pub length: usize,
 }
 
@@ -174,10 +174,10 @@ pub struct IssueAnswer {
 #[derive(Debug, PartialEq, Eq)]
 pub struct ReportAnswer {
     pub refusal: u32,
-    pub place: u32,
+    pub place: BlockCount,
     pub held: BlockCount,
     pub settled: BlockCount,
-    pub length: usize,
+    pub settled_length: usize,
     pub releases: [u32; 64],
 }
 
@@ -220,15 +220,15 @@ macro_rules! exported {
 #[rustfmt::skip]
 exported! {
     fn ledger_read_number(bytes: &[u8], at: usize) -> NumberAnswer;
-    fn ledger_write_number(out: &mut [u8], at: usize, value: u32) -> WriteAnswer;
+    fn ledger_write_number(value: u32, at: usize, out: &mut [u8]) -> WriteAnswer;
     fn ledger_digest(message: &[u8]) -> DigestAnswer;
     fn ledger_read_genesis(bytes: &[u8]) -> GenesisAnswer;
     fn ledger_find_key(bytes: &[u8], controller: u32) -> KeyAnswer;
     fn ledger_turn(table: Genesis, slot: Slot) -> u32;
     fn ledger_depth(table: Genesis) -> u64;
     fn ledger_read_block(bytes: &[u8], at: usize) -> BlockAnswer;
-    fn ledger_write_block(out: &mut [u8], at: usize, block: Block) -> WriteAnswer;
-    fn ledger_slot_text(out: &mut [u8], slot: Slot) -> WriteAnswer;
+    fn ledger_write_block(block: Block, at: usize, out: &mut [u8]) -> WriteAnswer;
+    fn ledger_slot_text(slot: Slot, out: &mut [u8]) -> WriteAnswer;
     fn ledger_walk_step(chain: &[u8], at: usize) -> StepAnswer;
     fn ledger_check(genesis: &[u8], clock: Slot, chain: &[u8], verdicts: &[u8]) -> CheckAnswer;
     fn ledger_choose(genesis: &[u8], clock: Slot, held: &[u8], delivered: &[u8], verdicts: &[u8]) -> ChooseAnswer;

@@ -8,13 +8,13 @@ pub use super::raw::Genesis as Table;
 
 pub fn read_genesis(bytes: &[u8]) -> Result<Table, Refusal> {
     let answer = raw::ledger_read_genesis(bytes);
-    told(answer.refusal, answer.place, answer.table)
+    told(answer.refusal, answer.place.0, answer.table)
 }
 
 /// Where a controller's key begins in the genesis bytes.
 pub fn find_key(bytes: &[u8], controller: u32) -> Result<usize, Refusal> {
     let answer = raw::ledger_find_key(bytes, controller);
-    told(answer.refusal, answer.place, answer.at)
+    told(answer.refusal, answer.place.0, answer.at)
 }
 
 /// Whose turn a slot is.
