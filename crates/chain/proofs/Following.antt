@@ -13,7 +13,8 @@ use Rattle.laws.specs.Format.{Each}
 use Rattle.laws.proofs.Told.{gives-same, then-gives, unless-gives}
 use Rattle.laws.proofs.Every.{same-is, within-true}
 use Rattle.block.specs.Block.{Parts, blockBytes, Fits}
-use Rattle.chain.specs.Chain.{linkOf, obeyed}
+use Rattle.order.specs.Order.{obeyed}
+use Rattle.chain.specs.Chain.{linkOf}
 use Rattle.chain.specs.declared.Standing.{Standing}
 use Rattle.chain.specs.Blocks.{chainBytes, follows, followed, Rising, Below, lastStamp}
 

@@ -12,14 +12,14 @@ use lib.Seq.{drop-cons, getD-take, length-take-le}
 use Rattle.laws.specs.Told.{gives, refuses, Found, found, then}
 use Rattle.laws.specs.Every.{same}
 use Rattle.laws.specs.Bytes.{part}
-use Rattle.order.specs.Order.{valid, taken}
+use Rattle.order.specs.Order.{valid, taken, obeyed}
 use Rattle.order.specs.declared.Order.{Order}
 use Rattle.block.specs.Block.{Parts, blockAt}
 use Rattle.block.specs.Steps.{bodyAt}
 use Rattle.block.specs.Answers.{listed, unlisted, bodyOr}
 use Rattle.block.specs.declared.reading.Orders.{Orders}
 use Rattle.block.proofs.Bodies.{Stands, stands, body-read, body-refused}
-use Rattle.chain.specs.Chain.{linkOf, Way, admitted, obeyed, joining, judged}
+use Rattle.chain.specs.Chain.{linkOf, Way, admitted, joining, judged}
 use Rattle.chain.specs.declared.Standing.{Standing}
 
 -- the orders from one place on

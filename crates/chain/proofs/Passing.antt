@@ -15,7 +15,8 @@ use Rattle.laws.proofs.Told.{gives-same, gives-not-refuses, then-gives, unless-
 use Rattle.laws.proofs.Run.{run-over, run-next, run-refused}
 use Rattle.block.specs.Block.{blockAt}
 use Rattle.block.proofs.Bodies.{stands}
-use Rattle.chain.specs.Chain.{Way, admitted, obeyed, judged, atBlock, settles, stepped, none, ended, passed, begun}
+use Rattle.order.specs.Order.{obeyed}
+use Rattle.chain.specs.Chain.{Way, admitted, judged, atBlock, settles, stepped, none, ended, passed, begun}
 use Rattle.chain.specs.declared.Opened.{Opened}
 use Rattle.chain.specs.declared.Standing.{Standing}
 use Rattle.chain.specs.declared.Summary.{Summary}

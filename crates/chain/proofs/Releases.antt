@@ -9,11 +9,10 @@ use lib.ListN.{getD, set}
 use Rattle.laws.specs.Every.{same}
 use Rattle.laws.specs.Told.{gives}
 use Rattle.laws.proofs.Told.{gives-same, then-gives, unless-gives}
-use Rattle.order.specs.Order.{valid, applied}
+use Rattle.order.specs.Order.{valid, applied, obeyed}
 use Rattle.order.specs.declared.Order.{Order}
 use Rattle.order.proofs.Validity.{valid-parts}
 use Rattle.block.specs.Block.{Parts}
-use Rattle.chain.specs.Chain.{obeyed}
 use Rattle.chain.specs.Blocks.{follows, followed, NoneFell}
 use Rattle.chain.specs.declared.Standing.{Standing}
 

@@ -12,7 +12,8 @@ use Rattle.laws.specs.Every.{same}
 use Rattle.laws.specs.Bytes.{joined}
 use Rattle.laws.specs.Format.{Each}
 use Rattle.block.specs.Block.{Parts, blockBytes, Fits}
-use Rattle.chain.specs.Chain.{linkOf, opened, Way, delivered, admitted, obeyed, settles, none}
+use Rattle.order.specs.Order.{obeyed}
+use Rattle.chain.specs.Chain.{linkOf, opened, Way, delivered, admitted, settles, none}
 use Rattle.chain.specs.declared.Opened.{Opened}
 use Rattle.chain.specs.declared.Standing.{Standing}
 use Rattle.chain.specs.declared.Summary.{Summary}

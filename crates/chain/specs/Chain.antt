@@ -11,8 +11,7 @@ use Rattle.laws.specs.Every.{both, same}
 use Rattle.laws.specs.Bytes.{part}
 use Rattle.laws.specs.Run.{run}
 use Rattle.sha256.specs.Answer.{bytesOf}
-use Rattle.order.specs.Order.{valid, applied}
-use Rattle.order.specs.declared.Order.{Order}
+use Rattle.order.specs.Order.{obeyed}
 use Rattle.genesis.specs.Genesis.{genesisOf, clockFits, depth}
 use Rattle.block.specs.Block.{Parts, blockAt}
 use Rattle.chain.specs.declared.Opened.{Opened}
@@ -42,11 +41,6 @@ pub data Way : Type 0 where
 abbrev pub admitted : Way → (clock count stamp : ℕ) → Told (Unit {0})
 admitted (delivered verdicts) clock count stamp = unless (ltb stamp clock) 7 0 (unless (eqb (getD verdicts count 0) 3) 8 0 (gives tt))
 admitted held clock count stamp = unless (leb stamp clock) 17 0 (gives tt)
-
--- the releases after orders that are valid one after the other, or 10
-abbrev pub obeyed : List ℕ → List Order → Told (List ℕ)
-obeyed releases [] = gives releases
-obeyed releases (o ∷ rest) = unless (valid releases o) 10 0 (obeyed (applied releases o) rest)
 
 -- a block whose stamp is admitted: 9, then 10
 abbrev pub joining : List ℕ → Standing → Found Parts → Told Standing

@@ -23,6 +23,7 @@ ghost use Rattle.laws.specs.Bytes.{part};
 ghost use Rattle.block.specs.Block.{blockAt};
 ghost use Rattle.block.specs.Steps.{bodyAt};
 ghost use Rattle.block.specs.Answers.{unlisted};
+ghost use Rattle.order.specs.Order.{obeyed};
 ghost use Rattle.chain.specs.Chain as spec;
 ghost use Rattle.chain.specs.Answers.{wayOf, toldWith, toldJudging, toldObeyed};
 
@@ -146,7 +147,7 @@ fn linked(chain: &[u8], at: usize, link: [u8; 32]) -> bool
 // Takes orders one after the other, as long as they are valid.
 fn obey(releases: &mut [Release; 64], orders: Orders) -> bool
     requires { ⌜ orders .count ≤ 8 ⌝ }
-    ensures { λ r. ⌜ toldObeyed r (now (releases .exit)) ≡ spec.obeyed (now (releases .entry)) (unlisted orders) ⌝ }
+    ensures { λ r. ⌜ toldObeyed r (now (releases .exit)) ≡ obeyed (now (releases .entry)) (unlisted orders) ⌝ }
 {
     let count = orders.count as usize;
     let list = orders.list;

@@ -15,10 +15,10 @@ use Rattle.laws.specs.Format.{Each}
 use Rattle.laws.proofs.Every.{same-refl, within-here}
 use Rattle.laws.proofs.Bytes.{bytes-filled}
 use Rattle.laws.proofs.Each.{each-weaker, each-append}
-use Rattle.order.specs.Order.{applied}
+use Rattle.order.specs.Order.{applied, obeyed}
 use Rattle.order.specs.declared.Order.{Order}
 use Rattle.block.specs.Block.{Parts, blockBytes, OrderFits, Fits}
-use Rattle.chain.specs.Chain.{linkOf, obeyed, none}
+use Rattle.chain.specs.Chain.{linkOf, none}
 use Rattle.chain.specs.Blocks.{follows, followed, Below}
 use Rattle.chain.specs.declared.Standing.{Standing}
 use Rattle.chain.proofs.Theorems.{blocks-follow-part-by-part}

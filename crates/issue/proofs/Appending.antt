@@ -24,7 +24,7 @@ use Rattle.order.specs.declared.Order.{Order}
 use Rattle.sha256.specs.Sha256.{sha256, longest, padded, hashed, digestByte}
 use Rattle.block.specs.Block.{Parts, frontBytes, blockBytes, OrderFits, Fits}
 use Rattle.block.specs.Blocks.{knownDisplay}
-use Rattle.chain.specs.Chain.{linkOf, obeyed}
+use Rattle.chain.specs.Chain.{linkOf}
 use Rattle.chain.specs.Blocks.{follows, followed}
 use Rattle.chain.specs.declared.Opened.{Opened}
 use Rattle.chain.specs.declared.Standing.{Standing}
@@ -32,7 +32,7 @@ use Rattle.chain.specs.declared.Summary.{Summary}
 use Rattle.pool.specs.Pool.{entriesIn, counts, counting, ordersOf, Taking, takeOne, taking}
 use Rattle.pool.specs.declared.Entry.{Entry}
 use Rattle.laws.specs.Fold.{folded}
-use Rattle.order.specs.Order.{valid, applied}
+use Rattle.order.specs.Order.{valid, applied, obeyed}
 use Rattle.pool.specs.declared.Pool.{Pool}
 use Rattle.issue.specs.Issue.{taken, nextFront, appendBytes}
 use Rattle.issue.proofs.Fronts.{taken-fine}

@@ -2,10 +2,11 @@
 -- Assumes nothing.
 use Prim.Native.Nat.{ℕ, _-_}
 use mathlib.Core.Bool.{Bool}
-use mathlib.Core.List.{List}
+use mathlib.Core.List.{List, [], _∷_}
 use lib.Dec.{ltb, eqb}
 use lib.ListN.{getD, set}
 use Rattle.laws.specs.Pick.{pick}
+use Rattle.laws.specs.Told.{Told, gives, unless}
 use Rattle.laws.specs.Every.{both}
 use Rattle.order.specs.declared.Order.{Order}
 
@@ -28,3 +29,8 @@ applied releases o = set releases (o .display) (o .new)
 -- an order that is not valid where it stands changes nothing
 abbrev pub taken : List ℕ → Order → List ℕ
 taken releases o = pick (valid releases o) (applied releases o) releases
+
+-- the releases after orders that are valid one after the other, or 10
+abbrev pub obeyed : List ℕ → List Order → Told (List ℕ)
+obeyed releases [] = gives releases
+obeyed releases (o ∷ rest) = unless (valid releases o) 10 0 (obeyed (applied releases o) rest)

@@ -14,9 +14,8 @@ use Rattle.laws.specs.Every.{both, every}
 use Rattle.laws.specs.Fold.{folded}
 use Rattle.laws.proofs.Every.{both-true}
 use Rattle.laws.proofs.Each.{each-append, every-each, each-every}
-use Rattle.order.specs.Order.{valid, applied}
+use Rattle.order.specs.Order.{valid, applied, obeyed}
 use Rattle.order.specs.declared.Order.{Order}
-use Rattle.chain.specs.Chain.{obeyed}
 use Rattle.pool.specs.Pool.{Taking, takeOne, taking}
 
 -- orders that are valid one after the other, and then more of them

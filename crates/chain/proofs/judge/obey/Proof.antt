@@ -10,7 +10,7 @@ use borrow.Author.Tests.{not-true, not-false}
 use borrow.Author.Needs.{needs}
 use Rattle.block.specs.Answers.{noOrder}
 use Rattle.chain.proofs.Judging.{obeyed-next, obeyed-fails}
-use Rattle.chain.specs.Chain.{obeyed}
+use Rattle.order.specs.Order.{obeyed}
 use Rattle.chain.proofs.judge.obey.Statement.{statement}
 use Rattle.chain.proofs.judge.obey.Tie as tie
 
