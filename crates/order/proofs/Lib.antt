@@ -1,1 +1,3 @@
 pub mod Validity
+pub mod Displays
+pub mod Theorems
