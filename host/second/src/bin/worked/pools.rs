@@ -1,0 +1,332 @@
+//! Orders offered to a pool.
+use second::order::{Order, Slot};
+use second::pool::{self, Entry, Pool, ROOM};
+use second::samples::{self, entry, order, BLOCK};
+use second::{refusal, Refusal};
+
+use crate::case::{case, refused, Case, Field, Op, Section};
+use crate::faults::{at, bad_blocks, bad_openings, several, Arguments};
+
+/// offer GENESIS NOW HELD LENGTH DISPLAY EXPECTED NEW COUNT DISPLAY EXPECTED NEW SLOT ..
+pub struct Offer(pub Arguments);
+
+impl Op for Offer {
+    fn word(&self) -> &'static str {
+        "offer"
+    }
+
+    fn fields(&self) -> Vec<Field> {
+        let given = &self.0;
+        let mut fields = vec![
+            given.genesis[..].into(),
+            given.now.0.into(),
+            given.held[..].into(),
+            given.held_length.into(),
+            given.order.display.into(),
+            given.order.expected.into(),
+            given.order.new.into(),
+        ];
+        fields.extend(pool_fields(&given.pool));
+        fields
+    }
+
+    fn answer(&self) -> String {
+        let mut given = self.0.clone();
+        match given.offer(pool::offer) {
+            Ok(()) => pool_text(&given.pool),
+            Err(refusal) => kept_text(refusal, &given.pool),
+        }
+    }
+}
+
+fn numbers(entry: &Entry) -> [u32; 4] {
+    let order = entry.order;
+    [order.display, order.expected, order.new, entry.slot.0]
+}
+
+/// A pool's count, and its entries up to the last that is not of zeros.
+pub fn pool_fields(pool: &Pool) -> impl Iterator<Item = Field> + '_ {
+    let last = pool
+        .entries
+        .iter()
+        .rposition(|entry| *entry != Entry::default());
+    let listed = &pool.entries[..last.map_or(0, |last| last + 1)];
+    let numbers = listed.iter().flat_map(numbers);
+    [pool.count].into_iter().chain(numbers).map(Field::from)
+}
+
+/// A pool as it is printed: past the count only entries that are not of zeros.
+fn pool_text(pool: &Pool) -> String {
+    let mut text = format!("pool {}", pool.count);
+    for (place, entry) in pool.entries.iter().enumerate() {
+        let within = place < pool.count as usize;
+        if !within && *entry == Entry::default() {
+            continue;
+        }
+        if !within {
+            text += &format!(" past {place}");
+        }
+        for number in numbers(entry) {
+            text += &format!(" {number}");
+        }
+    }
+    text
+}
+
+fn kept_text(refusal: Refusal, pool: &Pool) -> String {
+    format!("{} {}", refused(refusal), pool_text(pool))
+}
+
+/// The pool is of these entries afterwards, with zeros past them.
+fn pooled(name: impl Into<String>, given: Arguments, after: &[Entry]) -> Case {
+    case(name, Offer(given)).by_hand(pool_text(&Pool::of(after)))
+}
+
+/// The pool stays as it came.
+fn kept(name: impl Into<String>, given: Arguments, refusal: Refusal) -> Case {
+    let by_hand = kept_text(refusal, &given.pool);
+    case(name, Offer(given)).by_hand(by_hand)
+}
+
+/// Offered at slot 20 to one who holds no blocks; u is 5, display 2 at release 40, the others at 0.
+fn at_20(pool: Pool, order: Order) -> Arguments {
+    Arguments {
+        held: vec![],
+        held_length: 0,
+        pool,
+        order,
+        ..Arguments::good()
+    }
+}
+
+/// The new order behind all of these entries.
+fn behind(name: &str, entries: &[Entry], new: Order) -> Case {
+    let after = [entries, &[entry(new, 20)]].concat();
+    pooled(name, at_20(Pool::of(entries), new), &after)
+}
+
+fn refuses(name: &str, entries: &[Entry], new: Order, number: u32) -> Case {
+    kept(name, at_20(Pool::of(entries), new), refusal(number))
+}
+
+/// Entries from slot 16 on count.
+fn dropped() -> Vec<Case> {
+    let new = order(2, 44, 45);
+    let entries = [
+        entry(order(2, 40, 41), 15),
+        entry(order(2, 40, 42), 16),
+        entry(order(2, 42, 43), 1),
+        entry(order(2, 42, 44), 20),
+    ];
+    let young = [entries[1], entries[3], entry(new, 20)];
+    let mut spare = Pool::of(&entries);
+    spare.entries[4..].fill(entry(order(u32::MAX, 7, 7), 0));
+    let only_old = order(2, 41, 42);
+    vec![
+        behind("a pool of no entries", &[], order(2, 40, 41)),
+        pooled(
+            "slots 15, 16, 1, 20",
+            at_20(Pool::of(&entries), new),
+            &young,
+        ),
+        pooled(
+            "the same, and entries past the count",
+            at_20(spare.clone(), new),
+            &young,
+        ),
+        kept(
+            "the same, and an order that is not valid",
+            at_20(spare, only_old),
+            refusal(14),
+        ),
+        refuses(
+            "valid only after an entry that no longer counts",
+            &[entries[0]],
+            only_old,
+            14,
+        ),
+    ]
+}
+
+/// "An entry counts while now minus its slot is less than u."
+fn ages() -> Vec<Case> {
+    let old = entry(order(0, 0, 1), 7);
+    let new = order(1, 0, 1);
+    let ages = [
+        (5, 7, true),
+        (5, 11, true),
+        (5, 12, false),
+        (1, 7, true),
+        (1, 8, false),
+        (64, 70, true),
+        (64, 71, false),
+    ];
+    let mut cases: Vec<Case> = ages
+        .into_iter()
+        .map(|(u, now, counts)| {
+            let given = Arguments {
+                genesis: samples::genesis(6, 1, u).bytes(),
+                now: Slot(now),
+                ..at_20(Pool::of(&[old]), new)
+            };
+            let after = [old, entry(new, now)];
+            let name = format!("slot 7, u = {u}, now {now}");
+            pooled(name, given, &after[usize::from(!counts)..])
+        })
+        .collect();
+    let back = Arguments {
+        now: Slot(6),
+        ..at_20(Pool::of(&[old]), new)
+    };
+    cases.push(kept("slot 7, the clock set back to 6", back, refusal(18)));
+    cases
+}
+
+/// "Valid after the held chain and then the counting entries in order, entries that are invalid at their place being skipped."
+fn validity() -> Vec<Case> {
+    let two = [entry(order(2, 40, 50), 20), entry(order(3, 0, 9), 20)];
+    let mixed = [
+        entry(order(2, 41, 42), 18),
+        entry(order(2, 40, 41), 19),
+        entry(order(2, 40, 99), 20),
+        entry(order(5, 3, 3), 17),
+        entry(order(5, 0, 3), 16),
+    ];
+    vec![
+        behind("valid after a pooled one only", &two, order(2, 50, 51)),
+        behind("to the largest release", &two, order(3, 9, u32::MAX)),
+        behind("another display", &two, order(63, 0, 1)),
+        refuses("a pooled one makes it invalid", &two, order(2, 40, 41), 14),
+        refuses("the same order again", &two, order(3, 0, 9), 14),
+        refuses("new as expected", &two, order(2, 50, 50), 14),
+        refuses("new below expected", &two, order(2, 50, 49), 14),
+        refuses("expected too high", &two, order(0, 1, 2), 14),
+        behind("entries that are skipped stay", &mixed, order(2, 41, 42)),
+        refuses("after a skipped entry", &mixed, order(2, 42, 43), 14),
+        refuses("after another one", &mixed, order(2, 99, 100), 14),
+        behind("after the last", &mixed, order(5, 3, 4)),
+    ]
+}
+
+/// "Starting orders from the pool's state when the chain below has changed since." Block i of the sample chain takes display 2 to 40 + i.
+fn chain_below() -> Vec<Case> {
+    let entries = [entry(order(2, 40, 41), 19), entry(order(2, 41, 42), 19)];
+    let held = samples::good_chain(&samples::table());
+    let mut cases = Vec::new();
+    for (blocks, release) in [(0, 42), (1, 42), (2, 42), (3, 43), (5, 45)] {
+        for expected in [release - 1, release] {
+            let new = order(2, expected, 50);
+            let given = Arguments {
+                held: held.clone(),
+                held_length: BLOCK * blocks,
+                ..at_20(Pool::of(&entries), new)
+            };
+            let name = format!("{blocks} blocks held, {expected} expected");
+            cases.push(match expected == release {
+                true => pooled(name, given, &[&entries[..], &[entry(new, 20)]].concat()),
+                false => kept(name, given, refusal(14)),
+            });
+        }
+    }
+    cases
+}
+
+fn room() -> Vec<Case> {
+    let full = [entry(order(9, 9, 9), 16); ROOM];
+    let new = order(0, 0, 1);
+    let mut cases = vec![
+        behind("63 entries count", &full[1..], new),
+        refuses("64 entries count", &full, new, 13),
+        refuses("64 entries count, not valid", &full, order(0, 1, 2), 14),
+        refuses("64 entries count, display 64", &full, order(64, 0, 1), 5),
+    ];
+    for place in [0, 31, 63] {
+        let mut entries = full;
+        entries[place].slot = Slot(15);
+        let mut after = full;
+        after[63] = entry(new, 20);
+        let name = format!("64 entries, the one at place {place} no longer counts");
+        cases.push(pooled(name, at_20(Pool::of(&entries), new), &after));
+    }
+    let old = [entry(order(9, 9, 9), 15); ROOM];
+    let given = at_20(Pool::of(&old), new);
+    cases.push(pooled("64 entries, none counts", given, &[entry(new, 20)]));
+    cases
+}
+
+fn displays() -> Vec<Case> {
+    [64, 256, 257, u32::MAX]
+        .map(|display| {
+            let name = format!("display {display}");
+            refuses(
+                &name,
+                &[entry(order(2, 40, 41), 18)],
+                order(display, 0, 1),
+                5,
+            )
+        })
+        .into()
+}
+
+fn bad_pools() -> Vec<Case> {
+    samples::bad_pools()
+        .into_iter()
+        .map(|(fault, pool)| kept(fault, at_20(pool, order(1, 0, 1)), refusal(18)))
+        .collect()
+}
+
+/// Openings and held chains that every call refuses, and the refusals.
+pub fn bad_before_the_pool() -> Vec<(String, Arguments, Refusal)> {
+    let mut bad: Vec<(String, Arguments, Refusal)> = bad_openings()
+        .into_iter()
+        .map(|(fault, given, number)| (fault, given, refusal(number)))
+        .collect();
+    for (fault, held, refused) in bad_blocks() {
+        let given = Arguments {
+            held_length: held.len(),
+            held,
+            ..Arguments::good()
+        };
+        bad.push((
+            format!("held: {fault}"),
+            given,
+            at(17, refused.place as usize),
+        ));
+    }
+    for (held, held_length) in samples::bad_lengths(&samples::table()) {
+        let name = format!("length {held_length} of a buffer of {}", held.len());
+        let given = Arguments {
+            held,
+            held_length,
+            ..Arguments::good()
+        };
+        bad.push((name, given, refusal(17)));
+    }
+    bad
+}
+
+fn all_kept(faults: Vec<(String, Arguments, Refusal)>) -> Vec<Case> {
+    faults
+        .into_iter()
+        .map(|(name, given, refused)| kept(name, given, refused))
+        .collect()
+}
+
+pub fn sections() -> Vec<Section> {
+    let section = |title, cases| Section { title, cases };
+    let faults = samples::pooling_faults();
+    vec![
+        section("Pool: entries that no longer count are gone", dropped()),
+        section("Pool: how long an entry counts", ages()),
+        section("Pool: valid where it would stand, or 14", validity()),
+        section("Pool: the chain below decides", chain_below()),
+        section("Pool: 13 if 64 entries still count", room()),
+        section("Pool: 5 for the display offered", displays()),
+        section("Pool: 18 for a bad pool", bad_pools()),
+        section("Pool: 1, 2 and 17", all_kept(bad_before_the_pool())),
+        section(
+            "Pool: the earliest of several faults",
+            all_kept(several(&faults)),
+        ),
+    ]
+}

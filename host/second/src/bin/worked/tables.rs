@@ -1,0 +1,290 @@
+//! Genesis tables, and what hangs on one: turns, the depth, keys.
+use second::genesis::{self, Genesis};
+use second::order::Slot;
+use second::{refusal, samples};
+
+use crate::case::{bytes_text, case, releases_text, told, Case, Field, Op, Section};
+
+/// genesis BYTES
+pub struct Table(pub Vec<u8>);
+
+impl Op for Table {
+    fn word(&self) -> &'static str {
+        "genesis"
+    }
+
+    fn fields(&self) -> Vec<Field> {
+        vec![self.0[..].into()]
+    }
+
+    fn answer(&self) -> String {
+        told(genesis::read(&self.0), |table| {
+            let Genesis { n, t, u, .. } = table;
+            let keys = first_key(&table);
+            let releases = releases_text(&table.releases);
+            format!("n {n} t {t} u {u} keys at {keys} releases{releases}")
+        })
+    }
+}
+
+/// Where the keys begin: they are what the bytes end with.
+fn first_key(table: &Genesis) -> usize {
+    table.bytes().len() - 32 * table.keys.len()
+}
+
+/// turn GENESIS SLOT
+pub struct Turn(pub Vec<u8>, pub u32);
+
+impl Op for Turn {
+    fn word(&self) -> &'static str {
+        "turn"
+    }
+
+    fn fields(&self) -> Vec<Field> {
+        vec![self.0[..].into(), self.1.into()]
+    }
+
+    fn answer(&self) -> String {
+        told(genesis::read(&self.0), |table| {
+            format!("controller {}", table.turn(Slot(self.1)))
+        })
+    }
+}
+
+/// depth GENESIS
+pub struct Depth(pub Vec<u8>);
+
+impl Op for Depth {
+    fn word(&self) -> &'static str {
+        "depth"
+    }
+
+    fn fields(&self) -> Vec<Field> {
+        vec![self.0[..].into()]
+    }
+
+    fn answer(&self) -> String {
+        told(genesis::read(&self.0), |table| {
+            format!("depth {}", table.depth())
+        })
+    }
+}
+
+/// key GENESIS CONTROLLER
+pub struct Key(pub Vec<u8>, pub u32);
+
+impl Op for Key {
+    fn word(&self) -> &'static str {
+        "key"
+    }
+
+    fn fields(&self) -> Vec<Field> {
+        vec![self.0[..].into(), self.1.into()]
+    }
+
+    fn answer(&self) -> String {
+        let read = genesis::read(&self.0).and_then(|table| {
+            let before = (self.1 as usize).wrapping_sub(1);
+            let key = *table.keys.get(before).ok_or(refusal(12))?;
+            Ok((first_key(&table) + 32 * before, key))
+        });
+        told(read, |(at, key)| {
+            format!("key at {at} {}", bytes_text(&key))
+        })
+    }
+}
+
+/// The longest table: "at most 1,315 bytes".
+fn longest() -> Genesis {
+    Genesis {
+        releases: [u32::MAX; 64],
+        keys: vec![[0xFF; 32]; 31],
+        ..samples::genesis(31, 6, 64)
+    }
+}
+
+/// A table with releases of every length, in which all keys are equal.
+fn equal_keys() -> Genesis {
+    let mut table = samples::genesis(2, 0, 64);
+    table.keys = vec![[7; 32]; 2];
+    for (display, release) in [0, 127, 128, 16_383, 16_384, 1 << 21, 1 << 28, u32::MAX]
+        .into_iter()
+        .enumerate()
+    {
+        table.releases[8 * display] = release;
+    }
+    table
+}
+
+fn read() -> Vec<Case> {
+    let table = |name: &str, table: Genesis| case(name, Table(table.bytes()));
+    vec![
+        table("01's: n = 1, 99 bytes", samples::worked_genesis())
+            .by_hand("n 1 t 0 u 1 keys at 67 releases 0:7"),
+        table("n = 6, t = 1", samples::genesis(6, 1, 5))
+            .by_hand("n 6 t 1 u 5 keys at 67 releases 2:40"),
+        table("n = 6, t = 0, u = 64", samples::genesis(6, 0, 64)),
+        table("n = 11, t = 2", samples::genesis(11, 2, 1)),
+        table("n = 31, t = 6", samples::genesis(31, 6, 64)),
+        table("n = 31, t = 6, 1,315 bytes", longest()),
+        table("releases of every length, equal keys", equal_keys()),
+    ]
+}
+
+fn refused(name: impl Into<String>, bytes: Vec<u8>) -> Case {
+    case(name, Table(bytes)).by_hand("refused 1 0")
+}
+
+const OUT_OF_RANGE: [(u32, u32, u32); 15] = [
+    (0, 0, 1),
+    (32, 0, 1),
+    (257, 0, 1),
+    (u32::MAX, 0, 1),
+    (1, 1, 1),
+    (5, 1, 1),
+    (30, 6, 1),
+    (31, 7, 1),
+    (1, 858_993_459, 1),
+    (31, 858_993_460, 1),
+    (31, u32::MAX, 1),
+    (6, 1, 0),
+    (6, 1, 65),
+    (6, 1, 320),
+    (6, 1, u32::MAX),
+];
+
+/// Numbers that are read well and break a rule.
+fn out_of_range() -> Vec<Case> {
+    let mut cases: Vec<Case> = OUT_OF_RANGE
+        .into_iter()
+        .map(|(n, t, u)| {
+            // as many keys as a reader would want who keeps n in one byte
+            let mut table = samples::genesis(n & 0xFF, t, u);
+            table.n = n;
+            refused(format!("n = {n}, t = {t}, u = {u}"), table.bytes())
+        })
+        .collect();
+    let all_keys = Genesis {
+        keys: vec![[7; 32]; 257],
+        ..samples::genesis(257, 0, 1)
+    };
+    cases.push(refused("n = 257, and 257 keys", all_keys.bytes()));
+    cases
+}
+
+fn cut_or_long() -> Vec<Case> {
+    let good = samples::table();
+    let mut cases: Vec<Case> = [0, 1, 2, 3, 4, 66, 67, 98, 99, 258]
+        .into_iter()
+        .map(|end| refused(format!("cut to {end} bytes of 259"), good[..end].to_vec()))
+        .collect();
+    cases.push(refused("a byte after the keys", [&good[..], &[0]].concat()));
+    cases.push(refused("a key too many", [&good[..], &[0; 32]].concat()));
+    cases.push(refused("65,537 bytes", vec![1; 65_537]));
+    cases
+}
+
+/// One number of a good table written badly.
+fn badly_written() -> Vec<Case> {
+    let good = samples::table();
+    let mut cases = Vec::new();
+    for (place, number) in [
+        (0, "n"),
+        (1, "t"),
+        (2, "u"),
+        (3, "release 0"),
+        (66, "release 63"),
+    ] {
+        let forms: [(&str, &[u8]); 3] = [
+            ("not shortest", &[good[place] | 0x80, 0x00]),
+            ("too large", &[0xFF, 0xFF, 0xFF, 0xFF, 0x10]),
+            ("of five high bits", &[0x81; 5]),
+        ];
+        for (fault, form) in forms {
+            let bytes = [&good[..place], form, &good[place + 1..]].concat();
+            cases.push(refused(format!("{number} {fault}"), bytes));
+        }
+    }
+    cases
+}
+
+/// n, the slot, and the controller by hand.
+const TURNS: [(u32, u32, u32); 12] = [
+    (6, 7, 1),
+    (6, 256, 4),
+    (6, 1, 1),
+    (6, 6, 6),
+    (6, 12, 6),
+    (1, 1, 1),
+    (1, 2, 1),
+    (1, 256, 1),
+    (31, 31, 31),
+    (31, 32, 1),
+    (31, 256, 8),
+    (2, 255, 1),
+];
+
+fn turns() -> Vec<Case> {
+    let mut cases: Vec<Case> = TURNS
+        .into_iter()
+        .map(|(n, slot, controller)| {
+            let table = samples::genesis(n, 0, 1).bytes();
+            case(format!("n = {n}: slot {slot}"), Turn(table, slot))
+                .by_hand(format!("controller {controller}"))
+        })
+        .collect();
+    cases.push(case("a table of no bytes", Turn(vec![], 7)).by_hand("refused 1 0"));
+    cases
+}
+
+fn depths() -> Vec<Case> {
+    let mut cases: Vec<Case> = [(0, 1), (1, 4), (2, 7), (3, 10), (4, 13), (5, 16), (6, 19)]
+        .into_iter()
+        .map(|(t, depth)| {
+            let table = samples::genesis(31, t, 1).bytes();
+            case(format!("t = {t}"), Depth(table)).by_hand(format!("depth {depth}"))
+        })
+        .collect();
+    cases.push(case("a table of no bytes", Depth(vec![])).by_hand("refused 1 0"));
+    cases
+}
+
+fn keys() -> Vec<Case> {
+    let six = samples::table();
+    let long = longest();
+    let of_six = |controller: u32| {
+        case(
+            format!("n = 6: controller {controller}"),
+            Key(six.clone(), controller),
+        )
+    };
+    let bad = [&six[..], &[0]].concat();
+    vec![
+        of_six(1).by_hand("key at 67 01*32"),
+        of_six(2).by_hand("key at 99 02*32"),
+        of_six(6).by_hand("key at 227 06*32"),
+        of_six(0).by_hand("refused 12 0"),
+        of_six(7).by_hand("refused 12 0"),
+        of_six(257).by_hand("refused 12 0"),
+        of_six(u32::MAX).by_hand("refused 12 0"),
+        case("1,315 bytes: controller 31", Key(long.bytes(), 31)).by_hand("key at 1283 ff*32"),
+        case("a bad table: controller 1", Key(bad.clone(), 1)).by_hand("refused 1 0"),
+        case("a bad table: controller 0", Key(bad, 0)).by_hand("refused 1 0"),
+    ]
+}
+
+pub fn sections() -> Vec<Section> {
+    let section = |title, cases| Section { title, cases };
+    vec![
+        section("Genesis: tables that are read", read()),
+        section(
+            "Genesis: n, t and u out of their ranges, and nothing wraps",
+            out_of_range(),
+        ),
+        section("Genesis: cut, or longer than its keys", cut_or_long()),
+        section("Genesis: numbers badly written", badly_written()),
+        section("Turns (01, \"Worked by hand\")", turns()),
+        section("Depth: 3t + 1", depths()),
+        section("Keys: 1, then 12", keys()),
+    ]
+}

@@ -1,0 +1,304 @@
+//! The order pool (01, "Pool an order").
+use super::chain;
+use super::genesis::Opening;
+use super::order::{apply, valid, Order, Releases, Slot, DISPLAYS};
+use super::{refusal, Refusal};
+
+/// How many entries a pool has room for.
+pub const ROOM: usize = 64;
+
+/// "Each an order and its entry slot."
+#[derive(Debug, Clone, Copy, Default, PartialEq, Eq)]
+pub struct Entry {
+    pub order: Order,
+    pub slot: Slot,
+}
+
+/// "The pool is up to 64 entries." Any pool may be handed in, a bad one too.
+#[derive(Debug, Clone, PartialEq, Eq)]
+pub struct Pool {
+    pub count: u32,
+    pub entries: [Entry; ROOM],
+}
+
+impl Pool {
+    /// The pool of these entries, at most 64; "places past the count hold zeros".
+    pub fn of(entries: &[Entry]) -> Pool {
+        let mut pool = Pool {
+            count: entries.len() as u32,
+            entries: [Entry::default(); ROOM],
+        };
+        pool.entries[..entries.len()].copy_from_slice(entries);
+        pool
+    }
+
+    /// The entries that count, in order, or 18: "count above 64, or within the count an entry with a display above 63, slot 0 or slot
+    /// above now".
+    pub fn counting(&self, opening: &Opening) -> Result<Vec<Entry>, Refusal> {
+        let entries = self.entries.get(..self.count as usize).ok_or(refusal(18))?;
+        if !entries.iter().all(|entry| entry.good(opening.now)) {
+            return Err(refusal(18));
+        }
+        Ok(entries
+            .iter()
+            .filter(|entry| entry.counts(opening))
+            .copied()
+            .collect())
+    }
+}
+
+impl Entry {
+    fn good(&self, now: Slot) -> bool {
+        DISPLAYS.contains(&self.order.display) && self.slot >= Slot(1) && self.slot <= now
+    }
+
+    /// "An entry counts while now minus its slot is less than u." For an entry whose slot is not above now.
+    fn counts(&self, opening: &Opening) -> bool {
+        opening.now.0 - self.slot.0 < opening.genesis.u
+    }
+}
+
+/// The orders of the entries in order, each that is valid at that point, until `limit` are taken; and the releases after them.
+pub fn taken(entries: &[Entry], mut releases: Releases, limit: usize) -> (Vec<Order>, Releases) {
+    let orders = entries
+        .iter()
+        .map(|entry| entry.order)
+        .filter(|order| apply(order, &mut releases))
+        .take(limit)
+        .collect();
+    (orders, releases)
+}
+
+/// Pool an order: 1, 2, 17, 18, 5, 14, 13. "The new order must be valid after the held chain and then the counting entries in order." "On
+/// success the entries that no longer count are gone, the others keep their order, and the new one is last."
+pub fn offer(
+    genesis: &[u8],
+    now: Slot,
+    held: &[u8],
+    held_length: usize,
+    pool: &mut Pool,
+    order: Order,
+) -> Result<(), Refusal> {
+    let opening = Opening::new(genesis, now)?;
+    let held = chain::summary(&opening, held, held_length)?.whole;
+    let mut entries = pool.counting(&opening)?;
+    if !DISPLAYS.contains(&order.display) {
+        return Err(refusal(5));
+    }
+    let (_, releases) = taken(&entries, held.releases, ROOM);
+    if !valid(&order, &releases) {
+        return Err(refusal(14));
+    }
+    if entries.len() == ROOM {
+        return Err(refusal(13));
+    }
+    entries.push(Entry { order, slot: now });
+    *pool = Pool::of(&entries);
+    Ok(())
+}
+
+#[cfg(test)]
+mod tests {
+    use super::*;
+    use crate::samples::{self, entry, order, Case};
+
+    fn call(case: &mut Case) -> Option<Refusal> {
+        case.offer(offer).err()
+    }
+
+    /// Offers an order at slot 20 to one who holds no blocks; u is 5, display 2 at release 40.
+    fn offered(pool: &Pool, order: Order) -> Result<Pool, Refusal> {
+        let mut after = pool.clone();
+        offer(&samples::table(), Slot(20), &[], 0, &mut after, order)?;
+        Ok(after)
+    }
+
+    #[test]
+    fn the_new_entry_is_last_at_now() {
+        let mut pool = Pool::of(&[]);
+        let mut entries = Vec::new();
+        for release in 40..104 {
+            let next = order(2, release, release + 1);
+            pool = offered(&pool, next).unwrap();
+            entries.push(entry(next, 20));
+            assert_eq!(pool, Pool::of(&entries));
+        }
+        assert_eq!(offered(&pool, order(2, 104, 105)), Err(refusal(13)));
+    }
+
+    #[test]
+    fn valid_after_chain_and_entries() {
+        let pool = Pool::of(&[entry(order(2, 40, 50), 20), entry(order(3, 0, 9), 20)]);
+        for good in [order(2, 50, 51), order(3, 9, u32::MAX), order(63, 0, 1)] {
+            assert!(offered(&pool, good).is_ok());
+        }
+        for bad in [
+            order(2, 40, 41),
+            order(2, 50, 50),
+            order(3, 0, 1),
+            order(0, 0, 0),
+            order(0, 1, 2),
+        ] {
+            assert_eq!(offered(&pool, bad), Err(refusal(14)));
+        }
+    }
+
+    #[test]
+    fn entries_invalid_at_their_place_are_skipped_and_stay() {
+        let entries = [
+            entry(order(2, 41, 42), 18),
+            entry(order(2, 40, 41), 19),
+            entry(order(2, 40, 99), 20),
+        ];
+        let pool = Pool::of(&entries);
+        assert_eq!(offered(&pool, order(2, 42, 43)), Err(refusal(14)));
+        assert_eq!(offered(&pool, order(2, 99, 100)), Err(refusal(14)));
+        let new = order(2, 41, 42);
+        let after = [&entries[..], &[entry(new, 20)]].concat();
+        assert_eq!(offered(&pool, new), Ok(Pool::of(&after)));
+    }
+
+    #[test]
+    fn entries_count_while_younger_than_u() {
+        let entries = [
+            entry(order(2, 40, 41), 15),
+            entry(order(2, 40, 42), 16),
+            entry(order(2, 42, 43), 1),
+            entry(order(2, 42, 44), 20),
+        ];
+        let new = order(2, 44, 45);
+        let after = [entries[1], entries[3], entry(new, 20)];
+        assert_eq!(offered(&Pool::of(&entries), new), Ok(Pool::of(&after)));
+    }
+
+    #[test]
+    fn places_past_the_count_hold_zeros() {
+        let mut pool = Pool {
+            count: 2,
+            entries: [entry(order(u32::MAX, 7, 7), 0); ROOM],
+        };
+        pool.entries[0] = entry(order(2, 40, 41), 3);
+        pool.entries[1] = entry(order(2, 40, 41), 17);
+        let kept = pool.entries[1];
+        let new = order(0, 0, 1);
+        let after = Pool::of(&[kept, entry(new, 20)]);
+        assert_eq!(after.entries[63], entry(order(0, 0, 0), 0));
+        assert_eq!(offered(&pool, new), Ok(after));
+    }
+
+    #[test]
+    fn room() {
+        let mut pool = Pool::of(&[entry(order(9, 9, 9), 16); ROOM]);
+        let new = order(0, 0, 1);
+        assert_eq!(offered(&pool, new), Err(refusal(13)));
+        assert_eq!(offered(&pool, order(0, 1, 2)), Err(refusal(14)));
+        assert_eq!(offered(&pool, order(64, 0, 1)), Err(refusal(5)));
+        for place in [0, 31, 63] {
+            let mut old = pool.clone();
+            old.entries[place].slot = Slot(15);
+            let mut after = pool.entries;
+            after[63] = entry(new, 20);
+            assert_eq!(offered(&old, new).unwrap().entries, after);
+        }
+        pool.entries.fill(entry(order(9, 9, 9), 15));
+        let after = Pool::of(&[entry(new, 20)]);
+        assert_eq!(offered(&pool, new), Ok(after));
+    }
+
+    /// "Starting orders from the pool's state when the chain below has changed since."
+    #[test]
+    fn the_chain_below_decides() {
+        let genesis = samples::table();
+        let held = samples::good_chain(&genesis);
+        let mut pool = Pool::of(&[entry(order(2, 40, 41), 19), entry(order(2, 41, 42), 19)]);
+        let mut offer = |held_length, new| {
+            let now = Slot(20);
+            offer(&genesis, now, &held, held_length, &mut pool, new).map(|()| pool.count)
+        };
+        assert_eq!(offer(held.len(), order(2, 42, 43)), Err(refusal(14)));
+        assert_eq!(offer(0, order(2, 45, 46)), Err(refusal(14)));
+        // after the first block the second entry is valid, the first no longer
+        assert_eq!(offer(samples::BLOCK, order(2, 42, 43)), Ok(3));
+        assert_eq!(offer(held.len(), order(2, 45, 46)), Ok(4));
+    }
+
+    #[test]
+    fn the_clock_set_back() {
+        let pool = Pool::of(&[entry(order(0, 0, 1), 7)]);
+        let offer = |now| {
+            let mut pool = pool.clone();
+            let answer = offer(
+                &samples::table(),
+                Slot(now),
+                &[],
+                0,
+                &mut pool,
+                order(1, 0, 1),
+            );
+            answer.map(|()| pool.count)
+        };
+        assert_eq!(offer(6), Err(refusal(18)));
+        assert_eq!(offer(7), Ok(2));
+        assert_eq!(offer(11), Ok(2));
+        assert_eq!(offer(12), Ok(1));
+    }
+
+    #[test]
+    fn longest_and_shortest_stay() {
+        for (u, now, counts) in [(1, 7, 1), (1, 8, 0), (64, 70, 1), (64, 71, 0)] {
+            let genesis = samples::genesis(6, 1, u).bytes();
+            let mut pool = Pool::of(&[entry(order(0, 0, 1), 7)]);
+            offer(&genesis, Slot(now), &[], 0, &mut pool, order(1, 0, 1)).unwrap();
+            assert_eq!(pool.count, counts + 1);
+        }
+    }
+
+    #[test]
+    fn offered_displays() {
+        for display in [64, 256, u32::MAX] {
+            let mut case = Case::good();
+            case.order = order(display, 0, 1);
+            samples::answers(Some(refusal(5)), "display", case, call);
+        }
+    }
+
+    #[test]
+    fn taken_orders_stop_at_the_limit() {
+        let entries: Vec<Entry> = (0..10).map(|r| entry(order(0, r, r + 1), 1)).collect();
+        let (orders, releases) = taken(&entries, [0; 64], 8);
+        assert_eq!(orders.len(), 8);
+        assert_eq!(releases[0], 8);
+        let (orders, releases) = taken(&entries[1..], [0; 64], 8);
+        assert!(orders.is_empty());
+        assert_eq!(releases, [0; 64]);
+    }
+
+    #[test]
+    fn bad_openings() {
+        samples::refuses_bad_openings(call);
+    }
+
+    #[test]
+    fn bad_held_chains() {
+        samples::refuses_bad_held(call);
+    }
+
+    #[test]
+    fn bad_pools() {
+        samples::refuses_bad_pools(call);
+    }
+
+    #[test]
+    fn a_refusal_drops_nothing() {
+        let mut case = Case::good();
+        case.pool = Pool::of(&[entry(order(0, 0, 1), 1), entry(order(1, 0, 1), 2)]);
+        case.pool.entries[2] = entry(order(u32::MAX, 7, 7), 0);
+        case.order = order(2, 39, 41);
+        samples::answers(Some(refusal(14)), "old entries", case, call);
+    }
+
+    #[test]
+    fn the_earliest_of_several_faults() {
+        samples::refuses_in_order(&samples::pooling_faults(), call);
+    }
+}

@@ -1,0 +1,6 @@
+//! Above the proved library and the second implementation: safe calls of the proved one, what makes every call with both, runs of several
+//! controllers over the calls, and how other programs are run.
+pub mod both;
+pub mod programs;
+pub mod proved;
+pub mod run;

@@ -1,0 +1,80 @@
+//! Numbers and the digest.
+use super::{raw, told};
+use second::Refusal;
+
+/// The number at a place, and the place after it.
+pub fn read_number(bytes: &[u8], at: usize) -> Result<(u32, usize), Refusal> {
+    let answer = raw::ledger_read_number(bytes, at);
+    told(answer.refusal, answer.place.0, (answer.value, answer.next))
+}
+
+/// Writes a number at a place of a buffer and gives the place after it.
+pub fn write_number(value: u32, buffer: &mut [u8], at: usize) -> Result<usize, Refusal> {
+    let answer = raw::ledger_write_number(value, at, buffer);
+    told(answer.refusal, answer.place.0, answer.next)
+}
+
+/// SHA-256 of a slice.
+pub fn digest(message: &[u8]) -> Result<[u8; 32], Refusal> {
+    let answer = raw::ledger_digest(message);
+    told(answer.refusal, answer.place.0, answer.digest)
+}
+
+#[cfg(test)]
+mod tests {
+    use super::*;
+    use crate::both;
+    use second::chance::Chance;
+    use second::number;
+    use second::samples::FILLER;
+
+    /// Reads a number with both, and sees that the proved one leaves zeros beside a refusal.
+    fn reads_alike(bytes: &[u8], at: usize) {
+        if let Err(refused) = both::read_number(bytes, at) {
+            let zeros = raw::NumberAnswer {
+                refusal: refused.number,
+                place: 0,
+                value: 0,
+                next: 0,
+            };
+            assert_eq!(raw::ledger_read_number(bytes, at), zeros);
+        }
+    }
+
+    #[test]
+    fn numbers_are_read_alike() {
+        for high in 0..=5 {
+            for last in 0..=255 {
+                let bytes = [vec![0x80 | last; high], vec![last]].concat();
+                reads_alike(&bytes, 0);
+                reads_alike(&bytes, 1);
+                reads_alike(&bytes[..high], 0);
+            }
+        }
+        let mut chance = Chance::of_seed(1);
+        for _ in 0..2_000 {
+            let bytes = chance.array::<12>().map(|byte| byte | (byte << 5 & 0x80));
+            reads_alike(&bytes, chance.place(12));
+            reads_alike(&number::bytes(chance.number()), 0);
+        }
+    }
+
+    #[test]
+    fn numbers_are_written_alike() {
+        let mut chance = Chance::of_seed(2);
+        for _ in 0..2_000 {
+            let value = chance.number();
+            let length = chance.below(12);
+            let at = chance.of(&[0, 3, length, usize::MAX]);
+            let _ = both::write_number(value, &mut vec![FILLER; length], at);
+        }
+    }
+
+    #[test]
+    fn digests_agree() {
+        let message: Vec<u8> = (0..70_000u32).map(|i| ((i * i) >> 5) as u8).collect();
+        for length in (0..300).chain([1_000, 4_095, 65_535, 65_536, 65_537, 70_000]) {
+            let _ = both::digest(&message[..length]);
+        }
+    }
+}

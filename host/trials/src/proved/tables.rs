@@ -1,0 +1,91 @@
+//! The genesis table, and the rules that hang on it.
+use super::raw;
+use super::told;
+use second::order::Slot;
+use second::Refusal;
+
+pub use super::raw::Genesis as Table;
+
+pub fn read_genesis(bytes: &[u8]) -> Result<Table, Refusal> {
+    let answer = raw::ledger_read_genesis(bytes);
+    told(answer.refusal, answer.place.0, answer.table)
+}
+
+/// Where a controller's key begins in the genesis bytes.
+pub fn find_key(bytes: &[u8], controller: u32) -> Result<usize, Refusal> {
+    let answer = raw::ledger_find_key(bytes, controller);
+    told(answer.refusal, answer.place.0, answer.at)
+}
+
+/// Whose turn a slot is.
+pub fn turn(table: Table, slot: Slot) -> u32 {
+    raw::ledger_turn(table, raw::Slot(slot.0))
+}
+
+/// How many slots a block must lie back to be settled.
+pub fn depth(table: Table) -> u64 {
+    raw::ledger_depth(table)
+}
+
+#[cfg(test)]
+mod tests {
+    use super::*;
+    use crate::both;
+    use second::chance::Chance;
+    use second::samples;
+
+    /// A table of zeros but for these, which can be told apart.
+    fn table(n: u32, t: u32) -> Table {
+        Table {
+            n,
+            t,
+            u: 77,
+            releases: std::array::from_fn(|display| 1_000 + display as u32),
+            keys: 55,
+        }
+    }
+
+    /// Reads a table with both, and sees that the proved one leaves zeros beside a refusal.
+    fn reads_alike(bytes: &[u8]) {
+        if let Err(refused) = both::read_genesis(bytes) {
+            let zeros = raw::GenesisAnswer {
+                refusal: refused.number,
+                place: refused.place,
+                table: Table {
+                    n: 0,
+                    t: 0,
+                    u: 0,
+                    releases: [0; 64],
+                    keys: 0,
+                },
+            };
+            assert_eq!(raw::ledger_read_genesis(bytes), zeros);
+        }
+    }
+
+    #[test]
+    fn tables_are_read_alike() {
+        for n in 1..=31 {
+            for t in 0..=(n - 1) / 5 {
+                reads_alike(&samples::genesis(n, t, n + 1).bytes());
+            }
+        }
+        for (_, bytes) in samples::bad_geneses() {
+            reads_alike(&bytes);
+        }
+        let mut chance = Chance::of_seed(3);
+        for _ in 0..2_000 {
+            let bytes = chance.table().bytes();
+            reads_alike(&bytes);
+            reads_alike(&chance.faulty(bytes));
+        }
+    }
+
+    #[test]
+    fn tables_that_were_not_read() {
+        assert_eq!(turn(table(0, 3), Slot(9)), 0);
+        assert_eq!(turn(table(6, 3), Slot(0)), 1);
+        assert_eq!(turn(table(5, 3), Slot(9)), 4);
+        assert_eq!(depth(table(1, u32::MAX)), 3 * u64::from(u32::MAX) + 1);
+    }
+}
