@@ -1,25 +1,14 @@
-//! Links the archive that `rt staticlib ledger` wrote. With the feature `benchmarks` also the plain C digest, compiled by LEDGER_CC or gcc.
+//! With the feature `benchmarks`: the plain C digest, compiled by LEDGER_CC or gcc, at two levels of optimisation.
 use std::path::{Path, PathBuf};
 use std::process::Command;
 use std::{env, fs};
 
 fn main() {
     println!("cargo:rerun-if-changed=build.rs");
-    link_archive();
     if env::var_os("CARGO_FEATURE_BENCHMARKS").is_some() {
         compile_plain_digest("O2");
         compile_plain_digest("O3");
     }
-}
-
-fn link_archive() {
-    let archive = package().join("../../target/staticlib/libledger.a");
-    assert!(
-        archive.exists(),
-        "no target/staticlib/libledger.a: run `rt staticlib ledger` first"
-    );
-    println!("cargo:rerun-if-changed={}", archive.display());
-    link("ledger", archive.parent().unwrap());
 }
 
 /// Has the digest compiled at this level of optimisation, under a name of its own.

@@ -2,7 +2,8 @@
 //! the pool; a difference panics. The answer is the proved one's.
 use std::ptr;
 
-use crate::proved::{self, Table};
+use crate::proved;
+use ledger::Genesis as Table;
 use second::block::{self, Block};
 use second::calls::Calls;
 use second::genesis::{self, Genesis};
@@ -64,7 +65,7 @@ pub fn read_genesis(bytes: &[u8]) -> Answer<Table> {
         Ok(other) => same_table(answer.unwrap(), bytes, &other),
         Err(refused) => {
             assert_eq!(answer, Err(refused));
-            assert_eq!(proved::find_key(bytes, 1), Err(refused));
+            assert_eq!(proved::key(bytes, 1), Err(refused));
         }
     }
     answer
@@ -75,15 +76,14 @@ fn same_table(table: Table, bytes: &[u8], other: &Genesis) {
     assert_eq!(table.releases, other.releases);
     assert_eq!(&bytes[table.keys_at..], other.keys.as_flattened());
     for slot in [1, 2, 7, 31, 256, 257, u32::MAX].map(Slot) {
-        assert_eq!(proved::turn(table, slot), other.turn(slot));
+        assert_eq!(proved::turn(&table, slot), other.turn(slot));
     }
-    assert_eq!(proved::depth(table), u64::from(other.depth()));
+    assert_eq!(table.depth(), u64::from(other.depth()));
     for (controller, key) in (1..).zip(&other.keys) {
-        let at = proved::find_key(bytes, controller).unwrap();
-        assert_eq!(&bytes[at..at + 32], key);
+        assert_eq!(proved::key(bytes, controller), Ok(key));
     }
     for controller in [0, other.n + 1, u32::MAX] {
-        assert_eq!(proved::find_key(bytes, controller), Err(refusal(12)));
+        assert_eq!(proved::key(bytes, controller), Err(refusal(12)));
     }
 }
 

@@ -1,84 +1,33 @@
 //! One block, the walk over a chain, and the slot text.
-use super::{raw, told};
+use super::across;
 use second::block::Block;
-use second::order::{Order, Slot};
+use second::order::Slot;
 use second::Refusal;
 
 /// The block at a place, and the place after it.
 pub fn read_block(bytes: &[u8], at: usize) -> Result<(Block, usize), Refusal> {
-    let answer = raw::ledger_read_block(bytes, at);
-    told(
-        answer.refusal,
-        answer.place.0,
-        (taken(&answer.block), answer.next),
-    )
+    let read = ledger::read_block(bytes, at).map_err(across::refusal);
+    read.map(|(block, next)| (across::block(&block), next))
 }
 
 /// Writes a block at a place of a buffer and gives the place after it.
 pub fn write_block(block: &Block, buffer: &mut [u8], at: usize) -> Result<usize, Refusal> {
-    let answer = raw::ledger_write_block(lent(block), at, buffer);
-    told(answer.refusal, answer.place.0, answer.next)
+    ledger::write_block(&across::lent_block(block), at, buffer).map_err(across::refusal)
 }
 
 /// Writes the text of a slot that a host signs and gives its length.
 pub fn slot_text(slot: Slot, buffer: &mut [u8]) -> Result<usize, Refusal> {
-    let answer = raw::ledger_slot_text(raw::Slot(slot.0), buffer);
-    told(answer.refusal, answer.place.0, answer.next)
+    let text = ledger::slot_text(across::lent_slot(slot), buffer).map_err(across::refusal);
+    text.map(<[u8]>::len)
 }
 
 /// The block at a place of a chain and the place after it, or the end.
 pub fn walk_step(chain: &[u8], at: usize) -> Result<Option<(Block, usize)>, Refusal> {
-    let answer = raw::ledger_walk_step(chain, at);
-    let block = (!answer.end).then(|| (taken(&answer.block), answer.next));
-    told(answer.refusal, answer.place.0, block)
-}
-
-/// A block as it crosses. More orders than eight are left out, not their count.
-fn lent(block: &Block) -> raw::Block {
-    let mut list = [raw::Order::default(); 8];
-    for (place, order) in list.iter_mut().zip(&block.orders) {
-        *place = lent_order(order);
-    }
-    raw::Block {
-        front: raw::Front {
-            link: block.link,
-            orders: raw::Orders {
-                count: block.orders.len() as u32,
-                list,
-            },
-            slot: raw::Slot(block.slot.0),
-            slot_signature: block.slot_signature,
-        },
-        block_signature: block.block_signature,
-    }
-}
-
-pub fn lent_order(order: &Order) -> raw::Order {
-    raw::Order {
-        display: order.display,
-        expected: order.expected,
-        new: order.new,
-    }
-}
-
-/// A block that has crossed.
-fn taken(block: &raw::Block) -> Block {
-    let front = &block.front;
-    let orders = front.orders.list.iter().take(front.orders.count as usize);
-    Block {
-        link: front.link,
-        orders: orders.map(taken_order).collect(),
-        slot: Slot(front.slot.0),
-        slot_signature: front.slot_signature,
-        block_signature: block.block_signature,
-    }
-}
-
-pub fn taken_order(order: &raw::Order) -> Order {
-    Order {
-        display: order.display,
-        expected: order.expected,
-        new: order.new,
+    let rest = chain.get(at..).unwrap_or(&[]);
+    match ledger::blocks(rest).next() {
+        None => Ok(None),
+        Some(Err(refused)) => Err(across::refusal(refused)),
+        Some(Ok((block, bytes))) => Ok(Some((across::block(&block), at + bytes.len()))),
     }
 }
 
@@ -86,12 +35,13 @@ pub fn taken_order(order: &raw::Order) -> Order {
 mod tests {
     use super::*;
     use crate::both;
+    use ledger::raw;
     use second::chance::Chance;
     use second::samples::{self, FILLER};
 
     /// What stands beside a refusal.
-    fn no_block() -> raw::Block {
-        lent(&Block {
+    fn no_block() -> ledger::Block {
+        across::lent_block(&Block {
             slot_signature: [0; 64],
             block_signature: [0; 64],
             ..samples::block(0, &[])
@@ -106,8 +56,8 @@ mod tests {
         let step = raw::ledger_walk_step(bytes, at);
         match both {
             Ok((block, _)) => {
-                assert_eq!(read.block, lent(&block));
-                assert_eq!(step.block, lent(&block));
+                assert_eq!(read.block, across::lent_block(&block));
+                assert_eq!(step.block, across::lent_block(&block));
             }
             Err(_) => {
                 assert_eq!((read.next, read.block), (0, no_block()));

@@ -1,5 +1,6 @@
 //! The calls on whole chains.
-use super::{raw, told};
+use super::across::{self, lent_slot};
+use ledger::Held;
 use second::order::{BlockCount, Releases, Slot};
 use second::report::Report;
 use second::Refusal;
@@ -11,9 +12,9 @@ pub fn check(
     chain: &[u8],
     verdicts: &[u8],
 ) -> Result<(BlockCount, Releases), Refusal> {
-    let answer = raw::ledger_check(genesis, raw::Slot(now.0), chain, verdicts);
-    let value = (BlockCount(answer.count.0), answer.releases);
-    told(answer.refusal, answer.place.0, value)
+    let checked = ledger::check(genesis, lent_slot(now), chain, verdicts);
+    let checked = checked.map_err(across::refusal)?;
+    Ok((across::count(checked.count), checked.releases))
 }
 
 /// Shows the delivered chain exactly if it is accepted, else the held one with the refusal.
@@ -24,12 +25,11 @@ pub fn choose<'a>(
     delivered: &'a [u8],
     verdicts: &[u8],
 ) -> (&'a [u8], Option<Refusal>) {
-    let answer = raw::ledger_choose(genesis, raw::Slot(now.0), held, delivered, verdicts);
-    let shown = if answer.delivered { delivered } else { held };
-    (shown, told(answer.refusal, answer.place.0, ()).err())
+    let (shown, refused) = ledger::choose(genesis, lent_slot(now), held, delivered, verdicts);
+    (shown, refused.map(across::refusal))
 }
 
-/// Adopts a delivered chain: the held chain's new length, and its block count.
+/// Adopts a delivered chain: the held chain's new length, and its block count. On a refusal the length must be the old one.
 pub fn adopt(
     genesis: &[u8],
     now: Slot,
@@ -38,16 +38,11 @@ pub fn adopt(
     delivered: &[u8],
     verdicts: &[u8],
 ) -> Result<(usize, BlockCount), Refusal> {
-    let answer = raw::ledger_adopt(
-        genesis,
-        raw::Slot(now.0),
-        held,
-        held_length,
-        delivered,
-        verdicts,
-    );
-    let value = (answer.length, BlockCount(answer.count.0));
-    told(answer.refusal, answer.place.0, value)
+    let mut held = Held::stored(held, held_length);
+    let adopted = held.adopt(genesis, lent_slot(now), delivered, verdicts);
+    assert!(adopted.is_ok() || held.length() == held_length);
+    let count = adopted.map_err(across::refusal)?;
+    Ok((held.length(), across::count(count)))
 }
 
 /// Reports on the held chain.
@@ -57,20 +52,15 @@ pub fn report(
     held: &[u8],
     held_length: usize,
 ) -> Result<Report, Refusal> {
-    let answer = raw::ledger_report(genesis, raw::Slot(now.0), held, held_length);
-    let value = Report {
-        held: BlockCount(answer.held.0),
-        settled: BlockCount(answer.settled.0),
-        settled_length: answer.settled_length,
-        releases: answer.releases,
-    };
-    told(answer.refusal, answer.place.0, value)
+    let report = Held::stored(held, held_length).report(genesis, lent_slot(now));
+    report.map(across::report).map_err(across::refusal)
 }
 
 #[cfg(test)]
 mod tests {
     use super::*;
     use crate::both;
+    use ledger::raw;
     use second::chance::Chance;
     use second::samples::{self, Case};
 
@@ -133,21 +123,21 @@ mod tests {
     /// Zeros stand beside a refusal.
     #[test]
     fn refused() {
-        let checked = raw::ledger_check(&[], raw::Slot(1), &[], &[]);
+        let checked = raw::ledger_check(&[], ledger::Slot(1), &[], &[]);
         let zeros = raw::CheckAnswer {
             refusal: 1,
-            place: 0,
-            count: raw::BlockCount(0),
+            place: ledger::BlockCount(0),
+            count: ledger::BlockCount(0),
             releases: [0; 64],
         };
         assert_eq!(checked, zeros);
-        let reported = raw::ledger_report(&[], raw::Slot(1), &[], 0);
+        let reported = raw::ledger_report(&[], ledger::Slot(1), &[], 0);
         let zeros = raw::ReportAnswer {
             refusal: 1,
-            place: 0,
-            held: raw::BlockCount(0),
-            settled: raw::BlockCount(0),
-            length: 0,
+            place: ledger::BlockCount(0),
+            held: ledger::BlockCount(0),
+            settled: ledger::BlockCount(0),
+            settled_length: 0,
             releases: [0; 64],
         };
         assert_eq!(reported, zeros);

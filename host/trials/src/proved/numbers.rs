@@ -1,29 +1,26 @@
 //! Numbers and the digest.
-use super::{raw, told};
+use super::across;
 use second::Refusal;
 
 /// The number at a place, and the place after it.
 pub fn read_number(bytes: &[u8], at: usize) -> Result<(u32, usize), Refusal> {
-    let answer = raw::ledger_read_number(bytes, at);
-    told(answer.refusal, answer.place.0, (answer.value, answer.next))
+    ledger::read_number(bytes, at).map_err(across::refusal)
 }
 
 /// Writes a number at a place of a buffer and gives the place after it.
 pub fn write_number(value: u32, buffer: &mut [u8], at: usize) -> Result<usize, Refusal> {
-    let answer = raw::ledger_write_number(value, at, buffer);
-    told(answer.refusal, answer.place.0, answer.next)
+    ledger::write_number(value, at, buffer).map_err(across::refusal)
 }
 
 /// SHA-256 of a slice.
 pub fn digest(message: &[u8]) -> Result<[u8; 32], Refusal> {
-    let answer = raw::ledger_digest(message);
-    told(answer.refusal, answer.place.0, answer.digest)
+    ledger::digest(message).map_err(across::refusal)
 }
 
 #[cfg(test)]
 mod tests {
-    use super::*;
     use crate::both;
+    use ledger::{raw, BlockCount};
     use second::chance::Chance;
     use second::number;
     use second::samples::FILLER;
@@ -33,7 +30,7 @@ mod tests {
         if let Err(refused) = both::read_number(bytes, at) {
             let zeros = raw::NumberAnswer {
                 refusal: refused.number,
-                place: 0,
+                place: BlockCount(0),
                 value: 0,
                 next: 0,
             };

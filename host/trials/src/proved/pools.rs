@@ -1,9 +1,9 @@
 //! The order pool, and issuing a block from it.
-use super::blocks::{lent_order, taken_order};
-use super::{raw, told};
+use super::across::{self, lent_issue, lent_order, lent_pool, lent_slot};
+use ledger::{Held, Signature};
 use second::issue::Issue;
 use second::order::{Order, Slot};
-use second::pool::{Entry, Pool};
+use second::pool::Pool;
 use second::Refusal;
 
 /// Pools an order.
@@ -15,47 +15,11 @@ pub fn offer(
     pool: &mut Pool,
     order: Order,
 ) -> Result<(), Refusal> {
-    let answer = raw::ledger_pool_order(
-        genesis,
-        raw::Slot(now.0),
-        held,
-        held_length,
-        lent(pool),
-        lent_order(&order),
-    );
-    *pool = taken(&answer.pool);
-    told(answer.refusal, answer.place.0, ())
-}
-
-type Writing = fn(
-    &[u8],
-    raw::Slot,
-    &[u8],
-    usize,
-    raw::Pool,
-    u32,
-    raw::Signature,
-    &mut [u8],
-) -> raw::IssueAnswer;
-
-fn write(
-    call: Writing,
-    issue: &Issue,
-    held: &[u8],
-    held_length: usize,
-    buffer: &mut [u8],
-) -> Result<usize, Refusal> {
-    let answer = call(
-        issue.genesis,
-        raw::Slot(issue.now.0),
-        held,
-        held_length,
-        lent(issue.pool),
-        issue.controller,
-        raw::Signature(issue.slot_signature),
-        buffer,
-    );
-    told(answer.refusal, answer.place.0, answer.length)
+    let held = Held::stored(held, held_length);
+    let mut lent = lent_pool(pool);
+    let offered = held.offer(genesis, lent_slot(now), &mut lent, lent_order(order));
+    *pool = across::pool(&lent);
+    offered.map_err(across::refusal)
 }
 
 /// Writes the next block without its last 64 bytes and gives the length.
@@ -65,7 +29,9 @@ pub fn draft(
     held_length: usize,
     buffer: &mut [u8],
 ) -> Result<usize, Refusal> {
-    write(raw::ledger_draft, issue, held, held_length, buffer)
+    let pool = lent_pool(issue.pool);
+    let draft = Held::stored(held, held_length).draft(&lent_issue(issue, &pool), buffer);
+    draft.map(<[u8]>::len).map_err(across::refusal)
 }
 
 /// Writes the text of the next block that a host signs and gives the length.
@@ -75,49 +41,24 @@ pub fn block_text(
     held_length: usize,
     buffer: &mut [u8],
 ) -> Result<usize, Refusal> {
-    write(raw::ledger_block_text, issue, held, held_length, buffer)
+    let pool = lent_pool(issue.pool);
+    let text = Held::stored(held, held_length).block_text(&lent_issue(issue, &pool), buffer);
+    text.map(<[u8]>::len).map_err(across::refusal)
 }
 
-/// Writes the next block after the held chain and gives the new length.
+/// Writes the next block after the held chain and gives the new length. On a refusal the length must be the old one.
 pub fn append(
     issue: &Issue,
     held: &mut [u8],
     held_length: usize,
     block_signature: [u8; 64],
 ) -> Result<usize, Refusal> {
-    let answer = raw::ledger_append(
-        issue.genesis,
-        raw::Slot(issue.now.0),
-        held,
-        held_length,
-        lent(issue.pool),
-        issue.controller,
-        raw::Signature(issue.slot_signature),
-        raw::Signature(block_signature),
-    );
-    told(answer.refusal, answer.place.0, answer.length)
-}
-
-/// A pool as it crosses.
-fn lent(pool: &Pool) -> raw::Pool {
-    raw::Pool {
-        count: pool.count,
-        entries: pool.entries.map(|entry| raw::Entry {
-            order: lent_order(&entry.order),
-            slot: raw::Slot(entry.slot.0),
-        }),
-    }
-}
-
-/// A pool that has crossed.
-fn taken(pool: &raw::Pool) -> Pool {
-    Pool {
-        count: pool.count,
-        entries: pool.entries.map(|entry| Entry {
-            order: taken_order(&entry.order),
-            slot: Slot(entry.slot.0),
-        }),
-    }
+    let pool = lent_pool(issue.pool);
+    let mut held = Held::stored(held, held_length);
+    let appended = held.append(&lent_issue(issue, &pool), Signature(block_signature));
+    assert!(appended.is_ok() || held.length() == held_length);
+    appended.map_err(across::refusal)?;
+    Ok(held.length())
 }
 
 #[cfg(test)]

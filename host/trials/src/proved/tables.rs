@@ -1,47 +1,39 @@
 //! The genesis table, and the rules that hang on it.
-use super::raw;
-use super::told;
+use super::across;
+use ledger::Genesis;
 use second::order::Slot;
 use second::Refusal;
 
-pub use super::raw::Genesis as Table;
-
-pub fn read_genesis(bytes: &[u8]) -> Result<Table, Refusal> {
-    let answer = raw::ledger_read_genesis(bytes);
-    told(answer.refusal, answer.place.0, answer.table)
+pub fn read_genesis(bytes: &[u8]) -> Result<Genesis, Refusal> {
+    Genesis::read(bytes).map_err(across::refusal)
 }
 
-/// Where a controller's key begins in the genesis bytes.
-pub fn find_key(bytes: &[u8], controller: u32) -> Result<usize, Refusal> {
-    let answer = raw::ledger_find_key(bytes, controller);
-    told(answer.refusal, answer.place.0, answer.at)
+/// A controller's key.
+pub fn key(bytes: &[u8], controller: u32) -> Result<&[u8; 32], Refusal> {
+    ledger::key(bytes, controller).map_err(across::refusal)
 }
 
 /// Whose turn a slot is.
-pub fn turn(table: Table, slot: Slot) -> u32 {
-    raw::ledger_turn(table, raw::Slot(slot.0))
-}
-
-/// How many slots a block must lie back to be settled.
-pub fn depth(table: Table) -> u64 {
-    raw::ledger_depth(table)
+pub fn turn(table: &Genesis, slot: Slot) -> u32 {
+    table.turn(across::lent_slot(slot))
 }
 
 #[cfg(test)]
 mod tests {
     use super::*;
     use crate::both;
+    use ledger::{raw, BlockCount};
     use second::chance::Chance;
     use second::samples;
 
     /// A table of zeros but for these, which can be told apart.
-    fn table(n: u32, t: u32) -> Table {
-        Table {
+    fn table(n: u32, t: u32) -> Genesis {
+        Genesis {
             n,
             t,
             u: 77,
             releases: std::array::from_fn(|display| 1_000 + display as u32),
-            keys: 55,
+            keys_at: 55,
         }
     }
 
@@ -50,13 +42,13 @@ mod tests {
         if let Err(refused) = both::read_genesis(bytes) {
             let zeros = raw::GenesisAnswer {
                 refusal: refused.number,
-                place: refused.place,
-                table: Table {
+                place: BlockCount(refused.place),
+                table: Genesis {
                     n: 0,
                     t: 0,
                     u: 0,
                     releases: [0; 64],
-                    keys: 0,
+                    keys_at: 0,
                 },
             };
             assert_eq!(raw::ledger_read_genesis(bytes), zeros);
@@ -83,9 +75,9 @@ mod tests {
 
     #[test]
     fn tables_that_were_not_read() {
-        assert_eq!(turn(table(0, 3), Slot(9)), 0);
-        assert_eq!(turn(table(6, 3), Slot(0)), 1);
-        assert_eq!(turn(table(5, 3), Slot(9)), 4);
-        assert_eq!(depth(table(1, u32::MAX)), 3 * u64::from(u32::MAX) + 1);
+        assert_eq!(turn(&table(0, 3), Slot(9)), 0);
+        assert_eq!(turn(&table(6, 3), Slot(0)), 1);
+        assert_eq!(turn(&table(5, 3), Slot(9)), 4);
+        assert_eq!(table(1, u32::MAX).depth(), 3 * u64::from(u32::MAX) + 1);
     }
 }
