@@ -1,21 +1,21 @@
 //! A run of several controllers over the calls, as demand 3 has it: the correct ones act in every slot, deliveries first, then issuing when it is
 //! their turn; a chain that one of them issues reaches all of them in the next slot; the faulty ones send what they like.
+mod controller;
 mod faulty;
 mod station;
 
 use std::collections::BTreeMap;
 use std::rc::Rc;
 
+pub use controller::Controller;
 use faulty::{Chain, Faulty, Letter};
 use second::calls::Calls;
-use second::chain::{self, LONGEST};
+use second::chain;
 use second::chance::Chance;
 use second::genesis::Opening;
-use second::issue::Issue;
 use second::order::{Releases, Slot};
-use second::pool::Pool;
 use second::Refusal;
-use station::Station;
+pub use station::Station;
 
 /// What a run is made of. The same plan gives the same run.
 #[derive(Debug, Clone, Copy)]
@@ -52,29 +52,6 @@ pub enum Broken {
     Behind(Slot, u32),
     /// One could not issue in its turn, or not report.
     Refused(Slot, u32, Refusal),
-}
-
-/// A correct controller. Its buffer is full-sized.
-struct Controller {
-    number: u32,
-    held: Vec<u8>,
-    length: usize,
-    pool: Pool,
-}
-
-impl Controller {
-    fn new(number: u32) -> Controller {
-        Controller {
-            number,
-            held: vec![0; LONGEST],
-            length: 0,
-            pool: Pool::of(&[]),
-        }
-    }
-
-    fn chain(&self) -> &[u8] {
-        &self.held[..self.length]
-    }
 }
 
 /// What a controller reports settled: the bytes, and the releases after them.
@@ -138,14 +115,8 @@ impl<'a> Run<'a> {
         while !self.letters.is_empty() {
             let place = self.chance.below(self.letters.len());
             let (to, chain) = self.letters.swap_remove(place);
-            let verdicts = self.station.verdicts(&chain);
-            let to = &mut self.correct[to];
-            let genesis = &self.station.bytes;
-            match (self.calls.adopt)(genesis, now, &mut to.held, to.length, &chain, &verdicts) {
-                Ok((length, _)) => {
-                    to.length = length;
-                    self.account.adopted += 1;
-                }
+            match self.correct[to].adopt(&self.station, self.calls, now, &chain) {
+                Ok(_) => self.account.adopted += 1,
                 Err(refused) => *self.account.refused.entry(refused.number).or_default() += 1,
             }
         }
@@ -157,7 +128,8 @@ impl<'a> Run<'a> {
         let mut first: Option<(u32, Settled)> = None;
         let mut chains: Vec<&[u8]> = Vec::new();
         for one in &self.correct {
-            let report = (self.calls.report)(&self.station.bytes, now, &one.held, one.length)
+            let report = one
+                .report(&self.station, self.calls, now)
                 .map_err(|refused| Broken::Refused(now, one.number, refused))?;
             let settled = (one.held[..report.settled_length].to_vec(), report.releases);
             let (other, reported) = first.get_or_insert((one.number, settled.clone()));
@@ -186,9 +158,7 @@ impl<'a> Run<'a> {
             let opening = Opening::new(&self.station.bytes, now).unwrap();
             let held = chain::summary(&opening, &one.held, one.length).unwrap();
             let order = self.chance.order_at(&mut held.whole.releases.clone());
-            let genesis = &self.station.bytes;
-            let offered =
-                (self.calls.offer)(genesis, now, &one.held, one.length, &mut one.pool, order);
+            let offered = one.offer(&self.station, self.calls, now, order);
             self.account.pooled += u32::from(offered.is_ok());
         }
     }
@@ -199,7 +169,7 @@ impl<'a> Run<'a> {
         let Some(one) = self.correct.iter_mut().find(|one| one.number == turn) else {
             return Ok(Vec::new());
         };
-        issue(&self.station, self.calls, one, now)
+        one.issue(&self.station, self.calls, now)
             .map_err(|refused| Broken::Refused(now, turn, refused))?;
         let chain: Chain = Rc::from(one.chain());
         self.faulty.see(&chain);
@@ -216,20 +186,4 @@ impl<'a> Run<'a> {
         self.faulty
             .act(&self.station, now, correct, &mut self.chance)
     }
-}
-
-/// Signs the slot text and the block text, and appends.
-fn issue(station: &Station, calls: &Calls, one: &mut Controller, now: Slot) -> Result<(), Refusal> {
-    let issue = Issue {
-        genesis: &station.bytes,
-        now,
-        pool: &one.pool,
-        controller: one.number,
-        slot_signature: station.sign_slot(one.number, now),
-    };
-    let mut text = [0; 192];
-    let length = (calls.block_text)(&issue, &one.held, one.length, &mut text)?;
-    let signature = station.sign_block(one.number, &text[..length]);
-    one.length = (calls.append)(&issue, &mut one.held, one.length, signature)?;
-    Ok(())
 }

@@ -62,6 +62,11 @@ impl Station {
         self.sign(controller, text)
     }
 
+    /// Whether a signature is that of the controller whose key this is. The key of controller i is i, 32 times.
+    pub fn verify(&self, key: &[u8; 32], text: &[u8], signature: &[u8; 64]) -> bool {
+        self.sign(key[0].into(), text) == *signature
+    }
+
     /// "Verdict 3 means that both signatures verify under the key whose turn the slot is."
     fn verdict(&self, block: &Block, bytes: &[u8]) -> u8 {
         let turn = self.genesis.turn(block.slot);
