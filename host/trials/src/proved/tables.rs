@@ -22,7 +22,7 @@ pub fn turn(table: &Genesis, slot: Slot) -> u32 {
 mod tests {
     use super::*;
     use crate::both;
-    use ledger::{raw, BlockCount};
+    use ledger::{genesis_fault, raw, BlockCount};
     use second::chance::Chance;
     use second::samples;
 
@@ -37,9 +37,11 @@ mod tests {
         }
     }
 
-    /// Reads a table with both, and sees that the proved one leaves zeros beside a refusal.
+    /// Reads a table with both, and sees that the proved one leaves zeros beside a refusal, and that the wrapper has words exactly for that.
     fn reads_alike(bytes: &[u8]) {
-        if let Err(refused) = both::read_genesis(bytes) {
+        let read = both::read_genesis(bytes);
+        assert_eq!(genesis_fault(bytes).is_ok(), read.is_ok());
+        if let Err(refused) = read {
             let zeros = raw::GenesisAnswer {
                 refusal: refused.number,
                 place: BlockCount(refused.place),

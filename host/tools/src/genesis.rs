@@ -1,0 +1,216 @@
+//! A genesis as text, and as bytes.
+use ledger::{Genesis, DISPLAYS, GENESIS_BYTES, KEY_BYTES};
+
+use crate::Answer;
+
+/// What the lines of a text have said so far.
+#[derive(Default)]
+struct Text {
+    n: Option<u32>,
+    t: Option<u32>,
+    u: Option<u32>,
+    releases: Vec<(usize, u32)>,
+    keys: Vec<[u8; KEY_BYTES]>,
+}
+
+/// The genesis bytes of a text.
+pub fn make(text: &str) -> Answer {
+    let mut read = Text::default();
+    for (place, line) in (1..).zip(text.lines()) {
+        let (line, _) = line.split_once('#').unwrap_or((line, ""));
+        let words: Vec<&str> = line.split_whitespace().collect();
+        let wrong = |wrong| format!("line {place}: {wrong}");
+        read.line(&words).map_err(wrong)?;
+    }
+    read.bytes()
+}
+
+impl Text {
+    fn line(&mut self, words: &[&str]) -> Result<(), String> {
+        match words {
+            [] => Ok(()),
+            ["n", value] => once(&mut self.n, value),
+            ["t", value] => once(&mut self.t, value),
+            ["u", value] => once(&mut self.u, value),
+            ["release", display, release] => self.release(number(display)?, number(release)?),
+            ["key", controller, digits] => self.key(number(controller)?, digits),
+            _ => Err("not a line of a genesis".into()),
+        }
+    }
+
+    fn release(&mut self, display: u32, release: u32) -> Result<(), String> {
+        let display = display as usize;
+        if display >= DISPLAYS {
+            return Err(format!("display {display}: displays are 0 to 63"));
+        }
+        if self.releases.iter().any(|(listed, _)| *listed == display) {
+            return Err(format!("display {display} is listed twice"));
+        }
+        self.releases.push((display, release));
+        Ok(())
+    }
+
+    fn key(&mut self, controller: u32, digits: &str) -> Result<(), String> {
+        let next = self.keys.len() + 1;
+        if controller as usize != next {
+            return Err(format!("the key of controller {next} comes next"));
+        }
+        let key = key(digits).ok_or("a key has 64 hexadecimal digits")?;
+        self.keys.push(key);
+        Ok(())
+    }
+
+    fn bytes(self) -> Answer {
+        let said = |value: Option<u32>, name| value.ok_or(format!("no line with {name}"));
+        let (n, t, u) = (said(self.n, "n")?, said(self.t, "t")?, said(self.u, "u")?);
+        if n as usize != self.keys.len() {
+            return Err(format!("n is {n}, and {} keys are listed", self.keys.len()));
+        }
+        let mut releases = [0; DISPLAYS];
+        for (display, release) in self.releases {
+            releases[display] = release;
+        }
+        let mut out = [0; GENESIS_BYTES];
+        let bytes = ledger::write_genesis(t, u, &releases, &self.keys, &mut out);
+        bytes.map(<[u8]>::to_vec).map_err(|fault| fault.to_string())
+    }
+}
+
+fn once(value: &mut Option<u32>, word: &str) -> Result<(), String> {
+    match value.replace(number(word)?) {
+        None => Ok(()),
+        Some(_) => Err("this was said before".into()),
+    }
+}
+
+pub fn number(word: &str) -> Result<u32, String> {
+    let plain = word.bytes().all(|byte| byte.is_ascii_digit());
+    let value = word.parse().ok().filter(|_| plain);
+    value.ok_or(format!("{word} is not a number from 0 to {}", u32::MAX))
+}
+
+fn key(digits: &str) -> Option<[u8; KEY_BYTES]> {
+    if digits.len() != 2 * KEY_BYTES || !digits.bytes().all(|digit| digit.is_ascii_hexdigit()) {
+        return None;
+    }
+    let mut key = [0; KEY_BYTES];
+    for (place, byte) in key.iter_mut().enumerate() {
+        *byte = u8::from_str_radix(&digits[2 * place..][..2], 16).ok()?;
+    }
+    Some(key)
+}
+
+/// The text that makes these bytes.
+pub fn show(bytes: &[u8]) -> Result<String, String> {
+    let wrong = || match ledger::genesis_fault(bytes) {
+        Err(fault) => format!("a bad genesis: {fault}"),
+        Ok(()) => "a bad genesis".into(),
+    };
+    let table = Genesis::read(bytes).map_err(|_| wrong())?;
+    let mut text = format!("n {}\nt {}\nu {}\n", table.n, table.t, table.u);
+    for (display, release) in table.releases.iter().enumerate() {
+        if *release != 0 {
+            text += &format!("release {display} {release}\n");
+        }
+    }
+    let keys: Vec<&[u8]> = bytes[table.keys_at..].chunks(KEY_BYTES).collect();
+    for (controller, key) in (1..).zip(&keys) {
+        let digits: String = key.iter().map(|byte| format!("{byte:02x}")).collect();
+        let earlier = keys[..controller - 1].iter().position(|other| other == key);
+        let twice = earlier.map_or(String::new(), |place| {
+            format!("  # as controller {}", place + 1)
+        });
+        text += &format!("key {controller} {digits}{twice}\n");
+    }
+    Ok(text + &format!("# settled: slot + {} < now\n", table.depth()))
+}
+
+#[cfg(test)]
+mod tests {
+    use super::*;
+
+    /// n = 1, t = 0, u = 1, display 0 at release 7, and a key of 32 bytes: the bytes of `docs/STATION.md`, but for the key.
+    const TEXT: &str = "\
+        # a station of one\n\
+        n 1\nt 0\nu 1\nrelease 0 7  # the first layout\n\
+        key 1 00112233445566778899aabbccddeeff00112233445566778899AABBCCDDEEFF\n";
+
+    fn bytes() -> Vec<u8> {
+        let half = [
+            0, 17, 34, 51, 68, 85, 102, 119, 136, 153, 170, 187, 204, 221, 238, 255,
+        ];
+        [&[1, 0, 1, 7][..], &[0; 63], &half, &half].concat()
+    }
+
+    #[test]
+    fn made() {
+        assert_eq!(make(TEXT), Ok(bytes()));
+    }
+
+    #[test]
+    fn shown() {
+        let text = "n 1\nt 0\nu 1\nrelease 0 7\n\
+            key 1 00112233445566778899aabbccddeeff00112233445566778899aabbccddeeff\n\
+            # settled: slot + 1 < now\n";
+        assert_eq!(show(&bytes()), Ok(text.into()));
+    }
+
+    /// What is shown makes the same bytes again, two equal keys too.
+    #[test]
+    fn there_and_back() {
+        let keys = [[1; 32], [2; 32], [1; 32], [3; 32], [4; 32], [5; 32]];
+        let mut releases = [0; DISPLAYS];
+        (releases[2], releases[63]) = (40, u32::MAX);
+        let mut out = [0; GENESIS_BYTES];
+        let bytes = ledger::write_genesis(1, 64, &releases, &keys, &mut out).unwrap();
+        let text = show(bytes).unwrap();
+        assert!(text.contains("01  # as controller 1\n"), "{text}");
+        assert_eq!(make(&text), Ok(bytes.to_vec()));
+    }
+
+    #[test]
+    fn not_made() {
+        let changed = |from: &str, to: &str| make(&TEXT.replace(from, to)).unwrap_err();
+        for (from, to, wrong) in [
+            ("u 1\n", "", "no line with u"),
+            ("n 1", "n 2", "n is 2, and 1 keys are listed"),
+            (
+                "t 0",
+                "t +1",
+                "line 3: +1 is not a number from 0 to 4294967295",
+            ),
+            ("t 0", "t 0\nt 0", "line 4: this was said before"),
+            ("t 0", "T 0", "line 3: not a line of a genesis"),
+            (
+                "release 0 7",
+                "release 64 7",
+                "line 5: display 64: displays are 0 to 63",
+            ),
+            (
+                "release 0 7",
+                "release 0 7\nrelease 0 8",
+                "line 6: display 0 is listed twice",
+            ),
+            (
+                "key 1",
+                "key 2",
+                "line 6: the key of controller 1 comes next",
+            ),
+            ("ff00", "ff0", "line 6: a key has 64 hexadecimal digits"),
+            ("ff00", "ff0g", "line 6: a key has 64 hexadecimal digits"),
+            (
+                "u 1",
+                "u 0",
+                "u = 0: an order stays pooled for 1 to 64 slots",
+            ),
+        ] {
+            assert_eq!(changed(from, to), wrong);
+        }
+    }
+
+    #[test]
+    fn not_shown() {
+        let wrong = show(&bytes()[..50]).unwrap_err();
+        assert_eq!(wrong, "a bad genesis: the release of display 47 is cut");
+    }
+}
