@@ -62,26 +62,16 @@ pub fn write_genesis<'o>(
 /// What is wrong with a genesis.
 #[derive(Debug, Clone, Copy, PartialEq, Eq)]
 pub enum GenesisFault {
-    Controllers {
-        n: u32,
-    },
-    Faulty {
-        n: u32,
-        t: u32,
-    },
-    Pooled {
-        u: u32,
-    },
+    /// n is not 1 to 31.
+    Controllers { n: u32 },
+    /// n is not at least 5t + 1.
+    Faulty { n: u32, t: u32 },
+    /// u is not 1 to 64.
+    Pooled { u: u32 },
     /// A number is cut, or badly written.
-    Number {
-        part: Part,
-        kind: Kind,
-    },
+    Number { part: Part, kind: Kind },
     /// So many bytes stand where n keys belong.
-    Keys {
-        n: u32,
-        bytes: usize,
-    },
+    Keys { n: u32, bytes: usize },
     /// The buffer that it is to be written into.
     ShortBuffer,
 }

@@ -1,5 +1,8 @@
 //! The limits of `include/ledger.h`, by its names.
 
+/// The version of the header that the declarations in [`raw`](crate::raw) follow.
+pub const VERSION: usize = 2;
+
 /// Displays are 0 to 63.
 pub const DISPLAYS: usize = 64;
 /// The most controllers of a table.

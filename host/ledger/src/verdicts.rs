@@ -8,7 +8,8 @@ impl<B: AsRef<[u8]>> Held<B> {
     /// Writes the verdicts on a delivered chain that [`adopt`](Held::adopt) is given with it, one for each block.
     ///
     /// A chain that would be refused even if all its signatures were good is refused here, and nothing is verified. Nor are the blocks that the
-    /// held chain begins with too, since they were verified when they came, nor those behind the first bad one.
+    /// held chain begins with too, nor those behind the first bad one. So the held chain must be one whose signatures verify: adopted with such
+    /// verdicts, issued, or stored and found so by [`is_signed`](Held::is_signed).
     pub fn verdicts(
         &self,
         genesis: &[u8],
