@@ -1,11 +1,12 @@
 /*
- * The ledger library for hosts in C (C99): the calls that target/staticlib/libledger.a exports (`rt staticlib ledger`).
+ * The ledger library for hosts in C (C99) and C++ (C++11): the calls that target/staticlib/libledger.a exports (`rt staticlib ledger`).
  *
  * Every call answers for any bytes, any length and any number. An answer begins with the refusal's number, 0 where there is none, and its
  * place. Only ledger_turn and ledger_depth never refuse, and answer a number alone.
  *
- * Look at `refusal` first. Beside a refusal stand zeros, but for what the host keeps: the pool, and the length that ledger_adopt and ledger_append answer,
- * are as they came, and so is the place that a walk has reached. A refusal leaves every lent buffer as it came, and bytes past what a call writes stay.
+ * Look at `refusal` first. Beside a refusal stand zeros, but for what the host keeps: the pool, and the length that ledger_adopt and ledger_append
+ * answer, are as they came, and so is the place that a walk has reached. A refusal leaves every lent buffer as it came, and bytes past what a call
+ * writes stay.
  *
  * The place is the failing block, counted from 1, for 3 to 10 in a delivered chain (ledger_check, ledger_choose, ledger_adopt) and for 17 in
  * the held one. Every other refusal has place 0, one of a single block too. The numbers that stand at a call are its refusals, in the order in
@@ -13,11 +14,31 @@
  *
  * `clock` is the slot that it is now; the comments call it now.
  *
- * A slice is a pointer and a length in bytes; where the length is 0 the pointer may be NULL. The bytes are readable, and writable where it is not const. A buffer that a call writes shares no byte with the call's other slices. No call keeps
- * a pointer, allocates, or has a state: calls from several threads need no lock.
+ * A slice is a pointer and a length in bytes. The bytes are readable, and writable where it is not const. With length 0 the pointer may be
+ * anything, NULL too: nothing is read or written there. A buffer that a call writes shares no byte with the call's other slices. No call keeps a
+ * pointer, allocates, or has a state: calls from several threads need no lock.
  *
  * The held chain is the first `length` bytes of the buffer `held`, which has room for `held_room` bytes. The chain of no blocks is length 0 of
  * the same buffer. A buffer of LEDGER_CHAIN_BYTES never is too short.
+ *
+ * Bytes between the fields of a struct (padding) have no value: compare structs field by field, and do not send them as they lie in memory.
+ *
+ * What the host must do, since the library can't check it. Each is told in full in docs/HOSTS.md.
+ * - Sign the slot text and the block text, and nothing else under the same key. Sign at most one block for each slot, also across a restart: store
+ *   the signed block and its slot before sending it.
+ * - Use one signature scheme and one rule of verification on all controllers. Give a block LEDGER_GOOD_VERDICT exactly if both signatures verify.
+ * - Keep the chain, its length and the pool as the last call left them, and hand them back so. Lend full-sized buffers.
+ * - Count slots 1, 2, 3 and so on to 256, the same on every controller. In each slot take the deliveries first, one after another, and then issue if
+ *   it is the controller's turn.
+ * - Send an issued chain, the whole of it, so that every controller is given it in the next slot.
+ * - Verify a stored chain's signatures again at boot: no link covers the last block, so a call need not see damage in it.
+ *
+ * What to do at 17 and 18. A call meets them again with the same arguments, for ever. At 17 put the length to 0 and adopt the next whole chain that
+ * is delivered. At 18 empty the pool, all zeros, and offer its orders again. (If the clock was wrong, set it right first.) A controller that met one
+ * of them, or missed a slot, counts among the t faulty for the rest of the run, or until it has joined again: its report is not to be used.
+ *
+ * The target is x86-64 with the System V calling convention. The archive uses SSE2 and the red zone, the 128 bytes below the stack pointer: where
+ * interrupts run on the stack of what they interrupt, as in a kernel, give them a stack of their own or keep them off during a call.
  */
 #ifndef LEDGER_H
 #define LEDGER_H
@@ -36,17 +57,22 @@ extern "C" {
 /* Limits. */
 #define LEDGER_DISPLAYS 64           /* displays are 0 to 63 */
 #define LEDGER_CONTROLLERS 31        /* the most controllers of a table */
-#define LEDGER_SLOTS 256             /* slots are 1 to 256 */
+#define LEDGER_SLOTS 256             /* slots are 1 to 256: no chain has more blocks, and as many verdict bytes are always enough */
 #define LEDGER_ORDERS 8              /* the most orders of a block */
 #define LEDGER_POOL_ROOM 64          /* the most entries of a pool */
+#define LEDGER_POOL_SLOTS 64         /* the most slots that an order stays pooled: u is 1 to 64 */
 #define LEDGER_NUMBER_BYTES 5        /* the most bytes of a number */
 #define LEDGER_KEY_BYTES 32
 #define LEDGER_DIGEST_BYTES 32       /* the bytes of a digest */
 #define LEDGER_LINK_BYTES 32
 #define LEDGER_SIGNATURE_BYTES 64
+#define LEDGER_SLOT_LETTERS "slot"   /* a slot text is these letters, without a zero behind them, and the slot as a number */
+#define LEDGER_SLOT_LETTERS_BYTES 4
 #define LEDGER_SLOT_TEXT_BYTES 6     /* the most bytes of a slot text */
 #define LEDGER_DRAFT_BYTES 187       /* the most bytes of a draft: a block without its last 64 */
-#define LEDGER_BLOCK_TEXT_BYTES 192  /* the most bytes of a block text: a draft behind five letters */
+#define LEDGER_BLOCK_LETTERS "block" /* a block text is these letters, without a zero behind them, and the draft */
+#define LEDGER_BLOCK_LETTERS_BYTES 5
+#define LEDGER_BLOCK_TEXT_BYTES 192  /* the most bytes of a block text */
 #define LEDGER_GENESIS_BYTES 1315    /* the most bytes of a genesis */
 #define LEDGER_BLOCK_LEAST_BYTES 162 /* the fewest bytes of a block */
 #define LEDGER_BLOCK_BYTES 251       /* and the most */
@@ -54,28 +80,50 @@ extern "C" {
 #define LEDGER_MESSAGE_BYTES 65536   /* the most bytes that are digested */
 #define LEDGER_GOOD_VERDICT 3        /* both signatures verify under the key whose turn the slot is */
 
+/* The most that a call takes of the stack, in bytes, on every path: its frames, its arguments by value and its answer. Measured by host/c/stack.c and
+   rounded up to the next 256; a test holds the archive to it. No call recurses, and none takes more for longer input. */
+#define LEDGER_STACK_READ_NUMBER 256
+#define LEDGER_STACK_WRITE_NUMBER 256
+#define LEDGER_STACK_DIGEST 1024
+#define LEDGER_STACK_READ_GENESIS 1536
+#define LEDGER_STACK_FIND_KEY 1280
+#define LEDGER_STACK_TURN 512
+#define LEDGER_STACK_DEPTH 512
+#define LEDGER_STACK_READ_BLOCK 1280
+#define LEDGER_STACK_WRITE_BLOCK 1280
+#define LEDGER_STACK_SLOT_TEXT 256
+#define LEDGER_STACK_WALK_STEP 1280
+#define LEDGER_STACK_CHECK 5120
+#define LEDGER_STACK_CHOOSE 7936
+#define LEDGER_STACK_ADOPT 7936
+#define LEDGER_STACK_POOL_ORDER 12800
+#define LEDGER_STACK_DRAFT 11264
+#define LEDGER_STACK_BLOCK_TEXT 11264
+#define LEDGER_STACK_APPEND 11520
+#define LEDGER_STACK_REPORT 7936
+
 /* Refusal numbers. */
 enum ledger_refusal {
-    LEDGER_NO_REFUSAL = 0,
-    LEDGER_BAD_GENESIS = 1,    /* genesis bytes break a rule */
-    LEDGER_BAD_CLOCK = 2,      /* now is not 1 to 256 */
-    LEDGER_CUT = 3,            /* bytes end inside a block or number */
-    LEDGER_BAD_NUMBER = 4,     /* a number is not shortest, or too large */
-    LEDGER_OUT_OF_RANGE = 5,   /* order count, display or slot out of its range */
-    LEDGER_BAD_STAMP = 6,      /* a stamp not above the one before; draft or append: held chain ends at now */
-    LEDGER_LATE_STAMP = 7,     /* a delivered stamp not below now */
-    LEDGER_BAD_VERDICT = 8,    /* verdict not 3, or missing */
-    LEDGER_BAD_LINK = 9,       /* link wrong */
-    LEDGER_BAD_ORDER = 10,     /* an order not valid at its point */
-    LEDGER_NOT_LONGER = 11,    /* not more blocks than held */
-    LEDGER_WRONG_CONTROLLER = 12, /* controller not 1 to n, or not its turn */
-    LEDGER_POOL_FULL = 13,     /* 64 entries still count */
-    LEDGER_BAD_OFFER = 14,     /* new order not valid where it would stand */
-    LEDGER_SHORT_BUFFER = 15,  /* lent output too short */
-    LEDGER_TOO_LONG = 16,      /* delivered chain over 64,256 bytes, or a slice to digest over 65,536 */
-    LEDGER_BAD_HELD = 17,      /* held chain bad: longer than its buffer or than 64,256 bytes (place 0), or a block fails 3, 4, 5, 6, 9 or 10,
-                                  or its stamp is above now (the block's place). It needs no verdicts, and its last stamp may equal now */
-    LEDGER_BAD_POOL = 18       /* pool bad: count above 64, or within the count an entry with a display above 63, slot 0 or a slot above now */
+    LEDGER_NO_REFUSAL = 0,         /* the call has done what it says */
+    LEDGER_BAD_GENESIS = 1,        /* genesis bytes break a rule */
+    LEDGER_BAD_CLOCK = 2,          /* now is not 1 to 256 */
+    LEDGER_CUT = 3,                /* bytes end inside a block or number */
+    LEDGER_BAD_NUMBER = 4,         /* a number is not shortest, or too large */
+    LEDGER_OUT_OF_RANGE = 5,       /* order count, display or slot out of its range */
+    LEDGER_BAD_STAMP = 6,          /* a stamp not above the one before; draft or append: held chain ends at now */
+    LEDGER_LATE_STAMP = 7,         /* a delivered stamp not below now */
+    LEDGER_BAD_VERDICT = 8,        /* verdict not 3, or missing */
+    LEDGER_BAD_LINK = 9,           /* link wrong */
+    LEDGER_BAD_ORDER = 10,         /* an order not valid at its point */
+    LEDGER_NOT_LONGER = 11,        /* not more blocks than held */
+    LEDGER_WRONG_CONTROLLER = 12,  /* controller not 1 to n, or not its turn */
+    LEDGER_POOL_FULL = 13,         /* 64 entries still count */
+    LEDGER_BAD_OFFER = 14,         /* new order not valid where it would stand */
+    LEDGER_SHORT_BUFFER = 15,      /* lent output too short */
+    LEDGER_TOO_LONG = 16,          /* delivered chain over 64,256 bytes, or a slice to digest over 65,536 */
+    LEDGER_BAD_HELD = 17,          /* held chain bad: longer than its buffer or than 64,256 bytes (place 0), or a block fails 3, 4, 5, 6, 9 or 10,
+                                      or its stamp is above now (the block's place). It needs no verdicts, and its last stamp may equal now */
+    LEDGER_BAD_POOL = 18           /* pool bad: count above 64, or within the count an entry with a display above 63, slot 0 or a slot above now */
 };
 
 /* A slot, or a block's stamp. Apart from a number of blocks, so that neither can be taken for the other. */
@@ -201,7 +249,7 @@ typedef struct {
 typedef struct {
     uint32_t refusal;
     ledger_block_count place;
-    size_t length; /* what to hold from then on: the held chain's new length, on a refusal the old one */
+    size_t length;            /* what to hold from then on: the held chain's new length, on a refusal the old one */
     ledger_block_count count; /* of the adopted chain; 0 on a refusal */
 } ledger_adopt_answer;
 
@@ -238,7 +286,8 @@ ledger_digest_answer ledger_digest(const uint8_t *message, size_t message_length
 /* Reads a genesis: 1. */
 ledger_genesis_answer ledger_read_genesis(const uint8_t *bytes, size_t bytes_length);
 
-/* Where a controller's key stands in genesis bytes; controllers count from 1: 1, 12. */
+/* Where a controller's key stands in genesis bytes; controllers count from 1: 1, 12. Here 12 is an unknown controller, not 1 to n: turns do not
+   matter. */
 ledger_key_answer ledger_find_key(const uint8_t *bytes, size_t bytes_length, uint32_t controller);
 
 /* Whose turn a slot is: a controller, or 0 where the table has none. No refusal: any slot has a turn, and slot 0 is answered as slot 1 is. */
@@ -295,8 +344,8 @@ ledger_issue_answer ledger_block_text(const uint8_t *genesis, size_t genesis_len
                                       size_t held_room, size_t length, ledger_pool pool, uint32_t controller,
                                       ledger_signature slot_signature, uint8_t *out, size_t out_length);
 
-/* Writes the next block after the held chain: 1, 2, 17, 18, 12, 6, 15. The answer's length is what to hold from then on: with the new block, or after a
-   refusal, when nothing was appended, the old one. */
+/* Writes the next block after the held chain: 1, 2, 17, 18, 12, 6, 15. The answer's length is what to hold from then on: with the new block, or
+   after a refusal, when nothing was appended, the old one. */
 ledger_issue_answer ledger_append(const uint8_t *genesis, size_t genesis_length, ledger_slot clock, uint8_t *held,
                                   size_t held_room, size_t length, ledger_pool pool, uint32_t controller,
                                   ledger_signature slot_signature, ledger_signature block_signature);
@@ -304,6 +353,61 @@ ledger_issue_answer ledger_append(const uint8_t *genesis, size_t genesis_length,
 /* Reports on the held chain: 1, 2, 17. */
 ledger_report_answer ledger_report(const uint8_t *genesis, size_t genesis_length, ledger_slot clock, const uint8_t *held,
                                    size_t held_room, size_t length);
+
+/* The layout that the archive was compiled with: a host compiled with another does not compile. */
+#if defined(__cplusplus) && __cplusplus >= 201103L
+#define LEDGER_LAYOUT(name, fact) static_assert(fact, #name)
+#elif defined(__STDC_VERSION__) && __STDC_VERSION__ >= 201112L
+#define LEDGER_LAYOUT(name, fact) _Static_assert(fact, #name)
+#else
+#define LEDGER_LAYOUT(name, fact) typedef char name[(fact) ? 1 : -1]
+#endif
+#define LEDGER_SIZE(type, bytes) LEDGER_LAYOUT(type##_size, sizeof(type) == (bytes))
+#define LEDGER_AT(type, field, place) LEDGER_LAYOUT(type##_##field##_at, offsetof(type, field) == (place))
+
+LEDGER_LAYOUT(ledger_size_t_size, sizeof(size_t) == 8);
+LEDGER_SIZE(ledger_slot, 4); LEDGER_AT(ledger_slot, number, 0);
+LEDGER_SIZE(ledger_block_count, 4); LEDGER_AT(ledger_block_count, number, 0);
+LEDGER_SIZE(ledger_order, 12); LEDGER_AT(ledger_order, display, 0); LEDGER_AT(ledger_order, expected, 4); LEDGER_AT(ledger_order, new_release, 8);
+LEDGER_SIZE(ledger_orders, 100); LEDGER_AT(ledger_orders, count, 0); LEDGER_AT(ledger_orders, list, 4);
+LEDGER_SIZE(ledger_front, 200); LEDGER_AT(ledger_front, link, 0); LEDGER_AT(ledger_front, orders, 32); LEDGER_AT(ledger_front, slot, 132);
+LEDGER_AT(ledger_front, slot_signature, 136);
+LEDGER_SIZE(ledger_block, 264); LEDGER_AT(ledger_block, front, 0); LEDGER_AT(ledger_block, block_signature, 200);
+LEDGER_SIZE(ledger_entry, 16); LEDGER_AT(ledger_entry, order, 0); LEDGER_AT(ledger_entry, slot, 12);
+LEDGER_SIZE(ledger_pool, 1028); LEDGER_AT(ledger_pool, count, 0); LEDGER_AT(ledger_pool, entries, 4);
+LEDGER_SIZE(ledger_signature, 64); LEDGER_AT(ledger_signature, bytes, 0);
+LEDGER_SIZE(ledger_genesis, 280); LEDGER_AT(ledger_genesis, n, 0); LEDGER_AT(ledger_genesis, t, 4); LEDGER_AT(ledger_genesis, u, 8);
+LEDGER_AT(ledger_genesis, releases, 12); LEDGER_AT(ledger_genesis, keys_at, 272);
+LEDGER_SIZE(ledger_number_answer, 24); LEDGER_AT(ledger_number_answer, refusal, 0); LEDGER_AT(ledger_number_answer, place, 4);
+LEDGER_AT(ledger_number_answer, value, 8); LEDGER_AT(ledger_number_answer, next, 16);
+LEDGER_SIZE(ledger_write_answer, 16); LEDGER_AT(ledger_write_answer, refusal, 0); LEDGER_AT(ledger_write_answer, place, 4);
+LEDGER_AT(ledger_write_answer, next, 8);
+LEDGER_SIZE(ledger_digest_answer, 40); LEDGER_AT(ledger_digest_answer, refusal, 0); LEDGER_AT(ledger_digest_answer, place, 4);
+LEDGER_AT(ledger_digest_answer, digest, 8);
+LEDGER_SIZE(ledger_genesis_answer, 288); LEDGER_AT(ledger_genesis_answer, refusal, 0); LEDGER_AT(ledger_genesis_answer, place, 4);
+LEDGER_AT(ledger_genesis_answer, table, 8);
+LEDGER_SIZE(ledger_key_answer, 16); LEDGER_AT(ledger_key_answer, refusal, 0); LEDGER_AT(ledger_key_answer, place, 4);
+LEDGER_AT(ledger_key_answer, at, 8);
+LEDGER_SIZE(ledger_block_answer, 280); LEDGER_AT(ledger_block_answer, refusal, 0); LEDGER_AT(ledger_block_answer, place, 4);
+LEDGER_AT(ledger_block_answer, next, 8); LEDGER_AT(ledger_block_answer, block, 16);
+LEDGER_SIZE(ledger_step_answer, 288); LEDGER_AT(ledger_step_answer, refusal, 0); LEDGER_AT(ledger_step_answer, place, 4);
+LEDGER_AT(ledger_step_answer, end, 8); LEDGER_AT(ledger_step_answer, next, 16); LEDGER_AT(ledger_step_answer, block, 24);
+LEDGER_SIZE(ledger_check_answer, 268); LEDGER_AT(ledger_check_answer, refusal, 0); LEDGER_AT(ledger_check_answer, place, 4);
+LEDGER_AT(ledger_check_answer, count, 8); LEDGER_AT(ledger_check_answer, releases, 12);
+LEDGER_SIZE(ledger_choose_answer, 12); LEDGER_AT(ledger_choose_answer, refusal, 0); LEDGER_AT(ledger_choose_answer, place, 4);
+LEDGER_AT(ledger_choose_answer, delivered, 8);
+LEDGER_SIZE(ledger_adopt_answer, 24); LEDGER_AT(ledger_adopt_answer, refusal, 0); LEDGER_AT(ledger_adopt_answer, place, 4);
+LEDGER_AT(ledger_adopt_answer, length, 8); LEDGER_AT(ledger_adopt_answer, count, 16);
+LEDGER_SIZE(ledger_pool_answer, 1036); LEDGER_AT(ledger_pool_answer, refusal, 0); LEDGER_AT(ledger_pool_answer, place, 4);
+LEDGER_AT(ledger_pool_answer, pool, 8);
+LEDGER_SIZE(ledger_issue_answer, 16); LEDGER_AT(ledger_issue_answer, refusal, 0); LEDGER_AT(ledger_issue_answer, place, 4);
+LEDGER_AT(ledger_issue_answer, length, 8);
+LEDGER_SIZE(ledger_report_answer, 280); LEDGER_AT(ledger_report_answer, refusal, 0); LEDGER_AT(ledger_report_answer, place, 4);
+LEDGER_AT(ledger_report_answer, held, 8); LEDGER_AT(ledger_report_answer, settled, 12); LEDGER_AT(ledger_report_answer, settled_length, 16);
+LEDGER_AT(ledger_report_answer, releases, 24);
+#undef LEDGER_AT
+#undef LEDGER_SIZE
+#undef LEDGER_LAYOUT
 
 #ifdef __cplusplus
 }

@@ -1,16 +1,31 @@
 /* Each call of include/ledger.h from C, with arguments and answers that can be told apart: nothing else ties the header to the archive.
    It prints the line of the first answer that is not as expected, and then its exit status is 1. */
+#include "facts.h"
 #include "sample.h"
 
-#include <stdio.h>
-#include <stdlib.h>
-
 #define FILLER 0xEE
-#define EXPECT(fact)         \
-    do {                     \
-        if (!(fact))         \
-            return __LINE__; \
-    } while (0)
+
+/* Field by field: what lies between the fields of a struct has no value. */
+static bool same_order(ledger_order a, ledger_order b) {
+    return a.display == b.display && a.expected == b.expected && a.new_release == b.new_release;
+}
+
+static bool same_block(const ledger_block *a, const ledger_block *b) {
+    for (int i = 0; i < LEDGER_ORDERS; i++)
+        if (!same_order(a->front.orders.list[i], b->front.orders.list[i]))
+            return false;
+    return a->front.orders.count == b->front.orders.count && a->front.slot.number == b->front.slot.number &&
+           memcmp(a->front.link, b->front.link, LEDGER_LINK_BYTES) == 0 &&
+           memcmp(a->front.slot_signature, b->front.slot_signature, LEDGER_SIGNATURE_BYTES) == 0 &&
+           memcmp(a->block_signature, b->block_signature, LEDGER_SIGNATURE_BYTES) == 0;
+}
+
+static bool same_pool(const ledger_pool *a, const ledger_pool *b) {
+    for (int i = 0; i < LEDGER_POOL_ROOM; i++)
+        if (!same_order(a->entries[i].order, b->entries[i].order) || a->entries[i].slot.number != b->entries[i].slot.number)
+            return false;
+    return a->count == b->count;
+}
 
 static int numbers(void) {
     uint8_t out[5];
@@ -66,13 +81,14 @@ static int blocks(void) {
     EXPECT(memcmp(out + 35, "\x01\x02\x28\x29\x80\x02\x51", 7) == 0);
     ledger_block_answer read = ledger_read_block(out, sizeof out, 3);
     EXPECT(read.refusal == 0 && read.place.number == 0 && read.next == 169);
-    EXPECT(memcmp(&read.block, &block, sizeof block) == 0);
+    EXPECT(same_block(&read.block, &block));
     EXPECT(ledger_read_block(out, 100, 3).refusal == LEDGER_CUT);
     block.front.orders.list[0].display = LEDGER_DISPLAYS;
     EXPECT(ledger_write_block(block, 3, out, sizeof out).refusal == LEDGER_OUT_OF_RANGE);
     written = ledger_slot_text((ledger_slot){256}, out, LEDGER_SLOT_TEXT_BYTES);
     EXPECT(written.refusal == 0 && written.place.number == 0 && written.next == 6);
-    EXPECT(memcmp(out, "slot\x80\x02", 6) == 0);
+    EXPECT(memcmp(out, "slot\x80\x02", 6) == 0 && memcmp(out, LEDGER_SLOT_LETTERS, sizeof LEDGER_SLOT_LETTERS - 1) == 0);
+    EXPECT(sizeof LEDGER_SLOT_LETTERS - 1 == LEDGER_SLOT_LETTERS_BYTES && sizeof LEDGER_BLOCK_LETTERS - 1 == LEDGER_BLOCK_LETTERS_BYTES);
     EXPECT(ledger_slot_text((ledger_slot){0}, out, sizeof out).refusal == LEDGER_BAD_CLOCK);
     return 0;
 }
@@ -132,10 +148,10 @@ static int issues(const struct chain *c) {
     ledger_order order = {.display = 2, .expected = 42, .new_release = 300};
     ledger_pool_answer pooled = ledger_pool_order(c->genesis, c->genesis_length, now, held, sizeof held, c->length, pool, order);
     EXPECT(pooled.refusal == 0 && pooled.place.number == 0 && pooled.pool.count == 1);
-    EXPECT(memcmp(&pooled.pool.entries[0].order, &order, sizeof order) == 0 && pooled.pool.entries[0].slot.number == 20);
+    EXPECT(same_order(pooled.pool.entries[0].order, order) && pooled.pool.entries[0].slot.number == 20);
     pool = pooled.pool;
     pooled = ledger_pool_order(c->genesis, c->genesis_length, now, held, sizeof held, c->length, pool, order);
-    EXPECT(pooled.refusal == LEDGER_BAD_OFFER && memcmp(&pooled.pool, &pool, sizeof pool) == 0);
+    EXPECT(pooled.refusal == LEDGER_BAD_OFFER && same_pool(&pooled.pool, &pool));
     ledger_signature first, second;
     memset(&first, 0x51, sizeof first);
     memset(&second, 0xB1, sizeof second);
@@ -144,7 +160,8 @@ static int issues(const struct chain *c) {
     EXPECT(memcmp(draft + 32, "\x01\x02\x2A\xAC\x02\x14\x51", 7) == 0 && draft[issued.length - 1] == 0x51);
     issued = ledger_block_text(c->genesis, c->genesis_length, now, held, sizeof held, c->length, pool, 2, first, text, sizeof text);
     EXPECT(issued.refusal == 0 && issued.length == 5 + 102);
-    EXPECT(memcmp(text, "block", 5) == 0 && memcmp(text + 5, draft, 102) == 0);
+    EXPECT(memcmp(text, "block", 5) == 0 && memcmp(text, LEDGER_BLOCK_LETTERS, sizeof LEDGER_BLOCK_LETTERS - 1) == 0);
+    EXPECT(memcmp(text + 5, draft, 102) == 0);
     issued = ledger_draft(c->genesis, c->genesis_length, now, held, sizeof held, c->length, pool, 3, first, draft, sizeof draft);
     EXPECT(issued.refusal == LEDGER_WRONG_CONTROLLER && issued.length == 0);
     issued = ledger_append(c->genesis, c->genesis_length, now, held, sizeof held, c->length, pool, 3, first, second);
@@ -171,14 +188,76 @@ static int reports(const struct chain *c) {
     return 0;
 }
 
+/* With length 0 the pointer may be NULL, in every slice of every call: here those of numbers, tables and single blocks. The digest of no bytes is
+   the one that NIST publishes. */
+static int nothing_lent(void) {
+    ledger_block block = block_after((const uint8_t *)"abc", 3, 256, 40);
+    EXPECT(ledger_read_number(NULL, 0, 0).refusal == LEDGER_CUT);
+    EXPECT(ledger_write_number(300, 0, NULL, 0).refusal == LEDGER_SHORT_BUFFER);
+    EXPECT(memcmp(ledger_digest(NULL, 0).digest, "\xE3\xB0\xC4\x42\x98\xFC\x1C\x14", 8) == 0);
+    EXPECT(ledger_read_genesis(NULL, 0).refusal == LEDGER_BAD_GENESIS);
+    EXPECT(ledger_find_key(NULL, 0, 1).refusal == LEDGER_BAD_GENESIS);
+    EXPECT(ledger_read_block(NULL, 0, 0).refusal == LEDGER_CUT);
+    EXPECT(ledger_write_block(block, 0, NULL, 0).refusal == LEDGER_SHORT_BUFFER);
+    EXPECT(ledger_slot_text((ledger_slot){1}, NULL, 0).refusal == LEDGER_SHORT_BUFFER);
+    ledger_step_answer step = ledger_walk_step(NULL, 0, 0);
+    EXPECT(step.refusal == 0 && step.end && step.next == 0);
+    return 0;
+}
+
+/* And those of the calls on delivered chains. */
+static int nothing_delivered(const struct chain *c) {
+    const ledger_slot now = {20};
+    const uint8_t *genesis = c->genesis, verdicts[2] = {LEDGER_GOOD_VERDICT, LEDGER_GOOD_VERDICT};
+    const size_t n = c->genesis_length;
+    uint8_t held[2 * LEDGER_BLOCK_BYTES];
+    EXPECT(ledger_check(NULL, 0, now, c->bytes, c->length, verdicts, 2).refusal == LEDGER_BAD_GENESIS);
+    ledger_check_answer checked = ledger_check(genesis, n, now, NULL, 0, NULL, 0);
+    EXPECT(checked.refusal == 0 && checked.count.number == 0 && checked.releases[2] == 40);
+    checked = ledger_check(genesis, n, now, c->bytes, c->length, NULL, 0);
+    EXPECT(checked.refusal == LEDGER_BAD_VERDICT && checked.place.number == 1);
+    EXPECT(ledger_choose(NULL, 0, now, c->bytes, c->first, c->bytes, c->length, verdicts, 2).refusal == LEDGER_BAD_GENESIS);
+    EXPECT(ledger_choose(genesis, n, now, NULL, 0, c->bytes, c->length, verdicts, 2).delivered);
+    EXPECT(ledger_choose(genesis, n, now, NULL, 0, NULL, 0, NULL, 0).refusal == LEDGER_NOT_LONGER);
+    EXPECT(ledger_choose(genesis, n, now, NULL, 0, c->bytes, c->length, NULL, 0).refusal == LEDGER_BAD_VERDICT);
+    EXPECT(ledger_adopt(NULL, 0, now, held, sizeof held, 0, c->bytes, c->length, verdicts, 2).refusal == LEDGER_BAD_GENESIS);
+    EXPECT(ledger_adopt(genesis, n, now, NULL, 0, 0, c->bytes, c->length, verdicts, 2).refusal == LEDGER_SHORT_BUFFER);
+    EXPECT(ledger_adopt(genesis, n, now, NULL, 0, 0, NULL, 0, NULL, 0).refusal == LEDGER_NOT_LONGER);
+    EXPECT(ledger_adopt(genesis, n, now, held, sizeof held, 0, c->bytes, c->length, NULL, 0).refusal == LEDGER_BAD_VERDICT);
+    return 0;
+}
+
+/* And those of the calls on the held chain: NULL and no room are the chain of no blocks. Slot 20 is controller 2's turn. */
+static int nothing_held(const struct chain *c) {
+    const ledger_slot now = {20};
+    const uint8_t *genesis = c->genesis;
+    const size_t n = c->genesis_length;
+    uint8_t out[LEDGER_BLOCK_TEXT_BYTES];
+    ledger_pool pool;
+    memset(&pool, 0, sizeof pool);
+    ledger_order order = {.display = 2, .expected = 40, .new_release = 41};
+    ledger_signature sign;
+    memset(&sign, 0x51, sizeof sign);
+    EXPECT(ledger_pool_order(NULL, 0, now, NULL, 0, 0, pool, order).refusal == LEDGER_BAD_GENESIS);
+    EXPECT(ledger_pool_order(genesis, n, now, NULL, 0, 0, pool, order).pool.count == 1);
+    EXPECT(ledger_draft(NULL, 0, now, NULL, 0, 0, pool, 2, sign, NULL, 0).refusal == LEDGER_BAD_GENESIS);
+    EXPECT(ledger_draft(genesis, n, now, NULL, 0, 0, pool, 2, sign, NULL, 0).refusal == LEDGER_SHORT_BUFFER);
+    EXPECT(ledger_draft(genesis, n, now, NULL, 0, 0, pool, 2, sign, out, sizeof out).length == 32 + 1 + 1 + 64);
+    EXPECT(ledger_block_text(NULL, 0, now, NULL, 0, 0, pool, 2, sign, NULL, 0).refusal == LEDGER_BAD_GENESIS);
+    EXPECT(ledger_block_text(genesis, n, now, NULL, 0, 0, pool, 2, sign, NULL, 0).refusal == LEDGER_SHORT_BUFFER);
+    EXPECT(ledger_block_text(genesis, n, now, NULL, 0, 0, pool, 2, sign, out, sizeof out).length == 5 + 32 + 1 + 1 + 64);
+    EXPECT(ledger_append(NULL, 0, now, NULL, 0, 0, pool, 2, sign, sign).refusal == LEDGER_BAD_GENESIS);
+    EXPECT(ledger_append(genesis, n, now, NULL, 0, 0, pool, 2, sign, sign).refusal == LEDGER_SHORT_BUFFER);
+    EXPECT(ledger_report(NULL, 0, now, NULL, 0, 0).refusal == LEDGER_BAD_GENESIS);
+    ledger_report_answer report = ledger_report(genesis, n, now, NULL, 0, 0);
+    EXPECT(report.refusal == 0 && report.held.number == 0 && report.releases[2] == 40);
+    return 0;
+}
+
 int main(void) {
     struct chain chain;
     chain_of(&chain);
-    const int lines[] = {numbers(), digests(), tables(), blocks(), checks(&chain), adopts(&chain), issues(&chain), reports(&chain)};
-    for (size_t i = 0; i < sizeof lines / sizeof *lines; i++)
-        if (lines[i] != 0) {
-            printf("every_call.c, line %d\n", lines[i]);
-            return EXIT_FAILURE;
-        }
-    return EXIT_SUCCESS;
+    const int lines[] = {numbers(),      digests(),       tables(),       blocks(),                  checks(&chain),      adopts(&chain),
+                         issues(&chain), reports(&chain), nothing_lent(), nothing_delivered(&chain), nothing_held(&chain)};
+    return exit_status("every_call.c", lines, sizeof lines / sizeof *lines);
 }
