@@ -2,21 +2,17 @@
 #ifndef SAMPLE_H
 #define SAMPLE_H
 
-#include "ledger.h"
+#include "ledger_host.h"
 
 #include <string.h>
 
 /* A genesis of n = 6, t = 1 and u = 5, with display 2 at release 40: its length. */
 static inline size_t genesis_of(uint8_t out[LEDGER_GENESIS_BYTES]) {
-    size_t at = 0;
-    const uint32_t head[3] = {6, 1, 5};
-    for (int i = 0; i < 3; i++)
-        at = ledger_write_number(head[i], at, out, LEDGER_GENESIS_BYTES).next;
-    for (int display = 0; display < LEDGER_DISPLAYS; display++)
-        at = ledger_write_number(display == 2 ? 40 : 0, at, out, LEDGER_GENESIS_BYTES).next;
-    for (int controller = 1; controller <= 6; controller++, at += LEDGER_KEY_BYTES)
-        memset(out + at, controller, LEDGER_KEY_BYTES);
-    return at;
+    const uint32_t releases[LEDGER_DISPLAYS] = {[2] = 40};
+    uint8_t keys[6][LEDGER_KEY_BYTES];
+    for (uint8_t i = 0; i < 6; i++)
+        memset(keys[i], i + 1, LEDGER_KEY_BYTES);
+    return ledger_write_genesis(6, 1, 5, releases, keys[0], sizeof keys, out).length;
 }
 
 /* A block at a slot that takes display 2 one release on, with the digest of the bytes before it as its link. */

@@ -1,6 +1,6 @@
-/* How deep the stack gets in each call of include/ledger.h, for the table in docs/BENCHMARKS.md: its frames, its arguments by value and its answer.
-   Each call is made on good arguments, on a stack that was painted before; the lowest byte that is no longer paint tells. The exit status is 1 if a
-   call takes more than the header says. */
+/* How deep the stack gets in each call of include/ledger.h and in the helpers of ledger_host.h that go through several of them, for the table in
+   docs/BENCHMARKS.md: the frames, the arguments by value and the answer. Each call is made on good arguments, on a stack that was painted before; the
+   lowest byte that is no longer paint tells. The exit status is 1 if a call takes more than its header says. */
 #define _XOPEN_SOURCE 600
 #include "sample.h"
 
@@ -12,7 +12,7 @@
 #define PAINT 0xA5
 
 static struct chain sample;
-static const uint8_t verdicts[2] = {LEDGER_GOOD_VERDICT, LEDGER_GOOD_VERDICT};
+static const uint8_t good[2] = {LEDGER_GOOD_VERDICT, LEDGER_GOOD_VERDICT};
 static const ledger_slot now = {20};
 static uint8_t held[3 * LEDGER_BLOCK_BYTES];
 static uint8_t out[LEDGER_BLOCK_BYTES];
@@ -21,6 +21,30 @@ static ledger_block block;
 static ledger_pool pool;
 static ledger_order order = {.display = 2, .expected = 42, .new_release = 43};
 static ledger_signature signature;
+
+/* The stack below the frame that makes the call, and how much of it was in use where a helper called back at the deepest. */
+static volatile uint8_t *frame;
+static size_t called_back;
+
+static void note_depth(void) {
+    volatile uint8_t here = 0;
+    size_t in_use = (size_t)(frame - &here);
+    if (in_use > called_back)
+        called_back = in_use;
+}
+
+static bool verify(void *context, const uint8_t key[LEDGER_KEY_BYTES], const uint8_t *text, size_t text_length,
+                   const uint8_t theirs[LEDGER_SIGNATURE_BYTES]) {
+    (void)context, (void)key, (void)text, (void)text_length, (void)theirs;
+    note_depth();
+    return true;
+}
+
+static ledger_signature sign(void *context, const uint8_t *text, size_t text_length) {
+    (void)context, (void)text, (void)text_length;
+    note_depth();
+    return signature;
+}
 
 /* What is left of an answer: the number of its refusal, which must be 0. */
 static volatile uint32_t refusal;
@@ -39,16 +63,25 @@ static void read_block(void) { refusal = ledger_read_block(sample.bytes, sample.
 static void write_block(void) { refusal = ledger_write_block(block, 0, out, sizeof out).refusal; }
 static void slot_text(void) { refusal = ledger_slot_text(now, out, sizeof out).refusal; }
 static void walk_step(void) { refusal = ledger_walk_step(sample.bytes, sample.length, 0).refusal; }
-static void check(void) { refusal = ledger_check(G, now, sample.bytes, sample.length, verdicts, 2).refusal; }
-static void choose(void) { refusal = ledger_choose(G, now, held, sample.first, sample.bytes, sample.length, verdicts, 2).refusal; }
+static void check(void) { refusal = ledger_check(G, now, sample.bytes, sample.length, good, 2).refusal; }
+static void choose(void) { refusal = ledger_choose(G, now, held, sample.first, sample.bytes, sample.length, good, 2).refusal; }
 static void adopt(void) {
-    refusal = ledger_adopt(G, now, held, sizeof held, sample.first, sample.bytes, sample.length, verdicts, 2).refusal;
+    refusal = ledger_adopt(G, now, held, sizeof held, sample.first, sample.bytes, sample.length, good, 2).refusal;
 }
 static void pool_order(void) { refusal = ledger_pool_order(G, now, HELD, pool, order).refusal; }
 static void draft(void) { refusal = ledger_draft(G, now, HELD, pool, 2, signature, out, sizeof out).refusal; }
 static void block_text(void) { refusal = ledger_block_text(G, now, HELD, pool, 2, signature, out, sizeof out).refusal; }
 static void append(void) { refusal = ledger_append(G, now, HELD, pool, 2, signature, signature).refusal; }
 static void report(void) { refusal = ledger_report(G, now, HELD).refusal; }
+static void adopt_verified(void) {
+    refusal = ledger_adopt_verified(G, now, held, sizeof held, sample.first, sample.bytes, sample.length, verify, NULL).refusal;
+}
+static void chain_verifies(void) { refusal = !ledger_chain_verifies(G, held, sample.length, verify, NULL); }
+static void issue(void) { refusal = ledger_issue(G, now, HELD, pool, 2, sign, NULL).refusal; }
+static void verdicts(void) {
+    uint8_t made[LEDGER_SLOTS];
+    refusal = ledger_verdicts(G, now, held, sizeof held, sample.first, sample.bytes, sample.length, verify, NULL, made).refusal;
+}
 
 struct call {
     const char *name;
@@ -63,6 +96,7 @@ static const struct call calls[] = {
     CALL(find_key, FIND_KEY), CALL(turn, TURN), CALL(depth, DEPTH), CALL(read_block, READ_BLOCK), CALL(write_block, WRITE_BLOCK),
     CALL(slot_text, SLOT_TEXT), CALL(walk_step, WALK_STEP), CALL(check, CHECK), CALL(choose, CHOOSE), CALL(adopt, ADOPT),
     CALL(pool_order, POOL_ORDER), CALL(draft, DRAFT), CALL(block_text, BLOCK_TEXT), CALL(append, APPEND), CALL(report, REPORT),
+    CALL(verdicts, VERDICTS), CALL(adopt_verified, ADOPT_VERIFIED), CALL(chain_verifies, CHAIN_VERIFIES), CALL(issue, ISSUE),
 };
 
 static volatile uint8_t *stack;
@@ -72,10 +106,9 @@ static size_t used;
    dynamic linker does at the first one is not measured. */
 static void *measured(void *given) {
     const struct call *call = given;
-    call->make();
-    volatile uint8_t *frame;
     __asm__ volatile("mov %%rsp, %0" : "=r"(frame));
     size_t base = (size_t)(frame - stack);
+    call->make();
     for (size_t i = 0; i < base; i++)
         stack[i] = PAINT;
     call->make();
@@ -120,5 +153,6 @@ int main(void) {
     printf("| call | bytes of stack | the header says |\n|---|---|---|\n");
     for (size_t i = 0; i < sizeof calls / sizeof *calls; i++)
         within = row(&calls[i]) && within;
-    return within ? EXIT_SUCCESS : EXIT_FAILURE;
+    printf("| where a helper calls back | %zu | %d |\n", called_back, LEDGER_STACK_CALLBACK);
+    return within && called_back <= LEDGER_STACK_CALLBACK ? EXIT_SUCCESS : EXIT_FAILURE;
 }
