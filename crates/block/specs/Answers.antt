@@ -8,6 +8,8 @@ use Rattle.laws.specs.Told.{Told, gives, refuses, Found, found}
 use Rattle.order.specs.declared.Order.{Order}
 use Rattle.block.specs.declared.reading.NumberRead.{NumberRead}
 use Rattle.block.specs.declared.reading.NumberRead.the-variants as number
+use Rattle.block.specs.declared.reading.RangedRead.{RangedRead}
+use Rattle.block.specs.declared.reading.RangedRead.the-variants as ranged
 use Rattle.block.specs.declared.reading.OrderRead.{OrderRead}
 use Rattle.block.specs.declared.reading.OrderRead.the-variants as order
 use Rattle.block.specs.declared.reading.Orders.{Orders}
@@ -19,6 +21,10 @@ use Rattle.block.specs.declared.reading.Body.{Body}
 abbrev pub toldNumber : NumberRead → Told (Found ℕ)
 toldNumber (number.Value value next) = found value next
 toldNumber (number.Refused n) = refuses n 0
+
+abbrev pub toldRanged : RangedRead → Told (Found ℕ)
+toldRanged (ranged.Value value next) = found value next
+toldRanged (ranged.Refused n) = refuses n 0
 
 abbrev pub toldOrder : OrderRead → Told (Found Order)
 toldOrder (order.Order o next) = found o next

@@ -1,10 +1,12 @@
 // A block's numbers and orders, in byte order.
 use buffer::fits;
+use number::Number;
 use number::Reading;
-use number::within;
 use order::LAST_DISPLAY;
+use order::LAST_SLOT;
 use order::Order;
 use order::Slot;
+use order::within;
 use refusal::BAD_NUMBER;
 use refusal::CUT;
 use refusal::OUT_OF_RANGE;
@@ -15,7 +17,7 @@ ghost use Rattle.laws.specs.Told.{refuses};
 ghost use Rattle.laws.specs.Repeated.{repeated};
 ghost use Rattle.number.specs.Number.{numberAt};
 ghost use Rattle.block.specs.Block.{numberIn, orderAt, ordersAt};
-ghost use Rattle.block.specs.Answers.{toldNumber, toldOrder, toldOrders, ordersOf, listed, unlisted, toldBody, partsOf, bodyOr, partsOr, noBody};
+ghost use Rattle.block.specs.Answers.{toldNumber, toldRanged, toldOrder, toldOrders, ordersOf, listed, unlisted, toldBody, partsOf, bodyOr, partsOr, noBody};
 ghost use Rattle.block.specs.Steps.{bodyAt, stampAt};
 
 pub const LINK_BYTES: usize = 32;
@@ -24,6 +26,12 @@ pub const SIGNATURE_BYTES: usize = 64;
 
 // A number and the place after it.
 pub enum NumberRead {
+    Value(Number, usize),
+    Refused(u32),
+}
+
+// A number that lies in a range, and the place after it.
+pub enum RangedRead {
     Value(u32, usize),
     Refused(u32),
 }
@@ -38,16 +46,16 @@ fn read_number(s: &[u8], at: usize) -> NumberRead
     }
 }
 
-fn read_number_in(s: &[u8], at: usize, least: u32, most: u32) -> NumberRead
-    ensures { λ r. ⌜ toldNumber r ≡ numberIn least most (now (s .entry)) at ⌝ }
+fn read_number_in(s: &[u8], at: usize, least: u32, most: u32) -> RangedRead
+    ensures { λ r. ⌜ toldRanged r ≡ numberIn least most (now (s .entry)) at ⌝ }
 {
     match read_number(s, at) {
-        NumberRead::Refused(number) => NumberRead::Refused(number),
+        NumberRead::Refused(number) => RangedRead::Refused(number),
         NumberRead::Value(value, next) => {
             if within(least, value, most) {
-                NumberRead::Value(value, next)
+                RangedRead::Value(value, next)
             } else {
-                NumberRead::Refused(OUT_OF_RANGE)
+                RangedRead::Refused(OUT_OF_RANGE)
             }
         }
     }
@@ -63,8 +71,8 @@ fn read_order(s: &[u8], at: usize) -> OrderRead
     ensures { λ r. ⌜ toldOrder r ≡ orderAt (now (s .entry)) at ⌝ }
 {
     match read_number_in(s, at, 0, LAST_DISPLAY) {
-        NumberRead::Refused(number) => OrderRead::Refused(number),
-        NumberRead::Value(display, at) => match read_number(s, at) {
+        RangedRead::Refused(number) => OrderRead::Refused(number),
+        RangedRead::Value(display, at) => match read_number(s, at) {
             NumberRead::Refused(number) => OrderRead::Refused(number),
             NumberRead::Value(expected, at) => match read_number(s, at) {
                 NumberRead::Refused(number) => OrderRead::Refused(number),
@@ -104,8 +112,8 @@ fn read_orders(s: &[u8], at: usize) -> OrdersRead
     ensures orders { λ r. ⌜ r .orders ≡ ordersOf (ordersAt (now (s .entry)) at) ⌝ }
 {
     match read_number_in(s, at, 0, 8) {
-        NumberRead::Refused(number) => refused_orders(number),
-        NumberRead::Value(count, at) => read_listed(s, at, count),
+        RangedRead::Refused(number) => refused_orders(number),
+        RangedRead::Value(count, at) => read_listed(s, at, count),
     }
 }
 
@@ -190,9 +198,9 @@ fn read_stamp(s: &[u8], at: usize, orders: Orders) -> Body
     ensures { λ r. ⌜ toldBody r ≡ stampAt (now (s .entry)) (unlisted orders) at ⌝ }
     ensures { λ r. ⌜ partsOf r ≡ partsOr orders (stampAt (now (s .entry)) (unlisted orders) at) ⌝ }
 {
-    match read_number_in(s, at, 1, 256) {
-        NumberRead::Refused(number) => refused_body(number),
-        NumberRead::Value(slot, at) => {
+    match read_number_in(s, at, 1, LAST_SLOT) {
+        RangedRead::Refused(number) => refused_body(number),
+        RangedRead::Value(slot, at) => {
             if fits(s.len(), at, 2 * SIGNATURE_BYTES) {
                 Body {
                     place: Place::Next(at + 2 * SIGNATURE_BYTES),

@@ -7,10 +7,11 @@ use crate::reading::Place;
 use crate::reading::SIGNATURE_BYTES;
 use buffer::after;
 use buffer::fits;
-use number::within;
 use order::LAST_DISPLAY;
+use order::LAST_SLOT;
 use order::Order;
 use order::Slot;
+use order::in_run;
 use refusal::BAD_CLOCK;
 use refusal::OUT_OF_RANGE;
 use refusal::SHORT_BUFFER;
@@ -61,7 +62,7 @@ pub fn slot_text(out: &mut [u8], slot: Slot) -> Place
     ensures answer { λ r. ⌜ toldNext r ≡ placedIf (spec.within 1 256 (slot .0)) 2 (now (out .entry)) 0 (slotText (slot .0)) ⌝ }
     ensures buffer { λ _. ⌜ now (out .exit) ≡ placingIf (spec.within 1 256 (slot .0)) (now (out .entry)) 0 (slotText (slot .0)) ⌝ }
 {
-    if !within(1, slot.0, 256) {
+    if !in_run(slot, Slot(LAST_SLOT)) {
         return Place::Refused(BAD_CLOCK);
     }
     let letters = b"slot";
@@ -93,7 +94,7 @@ fn in_range(orders: Orders, slot: Slot) -> bool
     if !displays_known(orders) {
         return false;
     }
-    within(1, slot.0, 256)
+    in_run(slot, Slot(LAST_SLOT))
 }
 
 fn displays_known(orders: Orders) -> bool

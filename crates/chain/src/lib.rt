@@ -221,6 +221,6 @@ fn unchecked(number: u32, place: BlockCount) -> Checked
     Checked {
         answer: Answer::Refused(number, place),
         count: BlockCount(0),
-        releases: [0u32; 64],
+        releases: [0; 64],
     }
 }

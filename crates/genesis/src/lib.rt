@@ -1,10 +1,13 @@
 // The genesis table (01, "Genesis"): read as a whole or refused as a whole, and the two rules that hang on it, whose turn a slot is and how deep
 // a block must lie to be settled.
 use number::Reading;
-use number::within;
 use order::DISPLAYS;
+use order::LAST_SLOT;
 use order::Release;
 use order::Slot;
+use order::in_run;
+use order::slots_before;
+use order::within;
 use refusal::BAD_GENESIS;
 use refusal::WRONG_CONTROLLER;
 ghost use mathlib.Core.Path.{_≡_};
@@ -96,7 +99,7 @@ pub struct ReleasesRead {
 fn read_releases(bytes: &[u8], at: usize) -> ReleasesRead
     ensures { λ r. ⌜ toldReleases r ≡ spec.faulty (repeated numberAt 64 (now (bytes .entry)) at) ⌝ }
 {
-    let mut releases = [0u32; 64];
+    let mut releases: [Release; 64] = [0; 64];
     let mut place = at;
     let mut i = 0;
     while i < DISPLAYS {
@@ -176,7 +179,7 @@ pub fn none() -> Genesis
         n: 0,
         t: 0,
         u: 0,
-        releases: [0u32; 64],
+        releases: [0; 64],
         keys_at: 0,
     }
 }
@@ -188,17 +191,14 @@ pub fn turn(table: Genesis, slot: Slot) -> u32
     if table.n == 0 {
         return 0;
     }
-    if slot.0 == 0 {
-        return 1;
-    }
-    (slot.0 - 1) % table.n + 1
+    slots_before(slot) % table.n + 1
 }
 
 // Whether a slot is one that a clock may show.
 pub fn clock_fits(table: Genesis, clock: Slot) -> bool
     ensures { λ r. ⌜ r ≡ spec.clockFits table (clock .0) ⌝ }
 {
-    within(1, clock.0, 256)
+    in_run(clock, Slot(LAST_SLOT))
 }
 
 // How many slots a block must lie back to be settled.

@@ -4,7 +4,6 @@ ghost use mathlib.Core.Path.{_≡_};
 ghost use Prim.Native.Nat.{_+_, _<_, _≤_};
 ghost use lib.ListN.{length};
 ghost use lib.Seq.{sets};
-ghost use Rattle.laws.specs.Every as spec;
 ghost use Rattle.laws.specs.Placed.{placed, placing};
 ghost use Rattle.buffer.specs.Writing.{told as toldWriting};
 ghost use Rattle.number.specs.Number.{written, readGroups, numberAt, told};
@@ -119,11 +118,4 @@ fn put(out: &mut [u8], at: usize, value: Number)
         left /= 128;
     }
     out[place] = left as u8;
-}
-
-// Whether a number lies in a range.
-pub fn within(least: Number, value: Number, most: Number) -> bool
-    ensures { λ r. ⌜ r ≡ spec.within least most value ⌝ }
-{
-    least <= value && value <= most
 }

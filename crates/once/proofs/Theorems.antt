@@ -109,8 +109,8 @@ use Rattle.number.proofs.length.Kinds as number-length-kinds
 use Rattle.number.proofs.length.Reads as number-length
 use Rattle.number.proofs.read.Kinds as number-read-number-kinds
 use Rattle.number.proofs.read.Reads as number-read-number
-use Rattle.number.proofs.within.Kinds as number-within-kinds
-use Rattle.number.proofs.within.Reads as number-within
+use Rattle.order.proofs.within.Kinds as order-within-kinds
+use Rattle.order.proofs.within.Reads as order-within
 use Rattle.number.proofs.write.Kinds as number-write-number-kinds
 use Rattle.number.proofs.write.Reads as number-write-number
 use Rattle.order.proofs.earlier.Kinds as order-earlier-kinds
@@ -181,7 +181,7 @@ write-number-answers-once κs a x y s t p q = writing-faithful x y (p .0 ∙ sym
 pub write-number-leaves-its-buffer-once : OneLater 1 number-write-number-kinds.ps number-write-number-kinds.r number-write-number.Post (λ κs s. now (s .0))
 write-number-leaves-its-buffer-once κs a x y s t p q = p .1 ∙ sym (q .1)
 
-pub within-answers-once : OneAnswer 0 number-within-kinds.ps number-within-kinds.r number-within.Post
+pub within-answers-once : OneAnswer 0 order-within-kinds.ps order-within-kinds.r order-within.Post
 within-answers-once κs a x y s t p q = p ∙ sym q
 
 -- ---- sha256

@@ -1,8 +1,9 @@
 // Orders on the releases of 64 displays (01, "Orders, blocks, chains"), and the two kinds of number that are never mixed.
 ghost use mathlib.Core.Path.{_≡_};
-ghost use Prim.Native.Nat.{_+_};
+ghost use Prim.Native.Nat.{_+_, _-_};
 ghost use lib.Dec.{ltb};
-ghost use Rattle.order.specs.Order as spec;
+ghost use Rattle.laws.specs.Every as spec;
+ghost use Rattle.order.specs.Order.{valid as isValid, taken};
 
 // A slot, or a block's slot stamp.
 #[repr(C)]
@@ -28,6 +29,27 @@ pub fn earlier(slot: Slot, than: Slot) -> bool
     slot.0 < than.0
 }
 
+// Whether a slot is one of those from 1 to a last one.
+pub fn in_run(slot: Slot, last: Slot) -> bool
+    ensures { λ r. ⌜ r ≡ spec.within 1 (last .0) (slot .0) ⌝ }
+{
+    within(1, slot.0, last.0)
+}
+
+// Whether a count, a display or a controller lies in a range.
+pub fn within(least: u32, value: u32, most: u32) -> bool
+    ensures { λ r. ⌜ r ≡ spec.within least most value ⌝ }
+{
+    least <= value && value <= most
+}
+
+// How many slots from 1 on lie before one. Slot 0 is answered as slot 1 is.
+pub fn slots_before(slot: Slot) -> u32
+    ensures { λ r. ⌜ r ≡ slot .0 - 1 ⌝ }
+{
+    if slot.0 == 0 { 0 } else { slot.0 - 1 }
+}
+
 // Whether a slot lies more than so many slots before the clock's. The difference is taken, since a sum might not fit.
 pub fn more_slots_ago(slot: Slot, slots: u64, clock: Slot) -> bool
     ensures { λ r. ⌜ r ≡ ltb (slot .0 + slots) (clock .0) ⌝ }
@@ -48,6 +70,9 @@ pub const DISPLAYS: usize = 64;
 
 pub const LAST_DISPLAY: u32 = 63;
 
+// The last slot of a run.
+pub const LAST_SLOT: u32 = 256;
+
 #[repr(C)]
 pub struct Order {
     pub display: u32,
@@ -58,7 +83,7 @@ pub struct Order {
 }
 
 pub fn valid(releases: &[Release; 64], order: Order) -> bool
-    ensures { λ r. ⌜ r ≡ spec.valid (now (releases .entry)) order ⌝ }
+    ensures { λ r. ⌜ r ≡ isValid (now (releases .entry)) order ⌝ }
 {
     let display = order.display as usize;
     if DISPLAYS <= display {
@@ -69,8 +94,8 @@ pub fn valid(releases: &[Release; 64], order: Order) -> bool
 
 // Takes an order if it is valid, and says whether it was.
 pub fn take(releases: &mut [Release; 64], order: Order) -> bool
-    ensures { λ r. ⌜ r ≡ spec.valid (now (releases .entry)) order ⌝ }
-    ensures { λ _. ⌜ now (releases .exit) ≡ spec.taken (now (releases .entry)) order ⌝ }
+    ensures { λ r. ⌜ r ≡ isValid (now (releases .entry)) order ⌝ }
+    ensures { λ _. ⌜ now (releases .exit) ≡ taken (now (releases .entry)) order ⌝ }
 {
     if valid(&*releases, order) {
         let display = order.display as usize;

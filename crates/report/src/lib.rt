@@ -52,6 +52,6 @@ pub fn refused(number: u32, place: BlockCount) -> Reported
         held: BlockCount(0),
         settled: BlockCount(0),
         length: 0,
-        releases: [0u32; 64],
+        releases: [0; 64],
     }
 }

@@ -17,14 +17,14 @@ returns-2 c =
     let some = sym (c .before .displays-known .ensures) ∙ not-true _ (c .if2 .taken) in
     simp (le-leb _ _ (c .before .before .if1 .left), some)
 
-within-requires : tie.Need-within-requires
-within-requires c κs = search needs
+in-run-requires : tie.Need-in-run-requires
+in-run-requires c κs = search needs
 
 returns-3 : tie.Need-returns-3
 returns-3 c =
     let all = sym (c .before .before .displays-known .ensures) ∙ not-false _ (c .before .if2 .left) in
-    c .within .ensures ∙ simp (le-leb _ _ (c .before .before .before .if1 .left), all)
+    c .in-run .ensures ∙ simp (le-leb _ _ (c .before .before .before .if1 .left), all)
 
 pub in-range-spec : {M : Type 1} → statement M
 in-range-spec =
-    tie.close (tie.spec returns displays-known-requires returns-2 within-requires returns-3)
+    tie.close (tie.spec returns displays-known-requires returns-2 in-run-requires returns-3)

@@ -17,13 +17,13 @@ use Rattle.number.proofs.Written.{at-most-five}
 use Rattle.block.proofs.writing.slot_text.Statement.{statement}
 use Rattle.block.proofs.writing.slot_text.Tie as tie
 
-within-requires : tie.Need-within-requires
-within-requires c κs = search needs
+in-run-requires : tie.Need-in-run-requires
+in-run-requires c κs = search needs
 
 returns : tie.Need-returns
 returns c =
     let a = c .before .before .before .args in
-    judged-refused (within 1 256 (a .slot .0)) 2 (now (a .out)) 0 (slotText (a .slot .0)) (sym (c .before .within .ensures) ∙ not-true _ (c .if1 .taken))
+    judged-refused (within 1 256 (a .slot .0)) 2 (now (a .out)) 0 (slotText (a .slot .0)) (sym (c .before .in-run .ensures) ∙ not-true _ (c .if1 .taken))
 
 length-requires : tie.Need-length-requires
 length-requires c κs = search needs
@@ -38,7 +38,7 @@ abbrev letters : List ℕ
 letters = 115 ∷ 108 ∷ 111 ∷ 116 ∷ []
 
 fine : (c : tie.Else1) → within 1 256 (c .before .before .before .args .slot .0) ≡ true
-fine c = sym (c .before .within .ensures) ∙ not-false _ (c .if1 .left)
+fine c = sym (c .before .in-run .ensures) ∙ not-false _ (c .if1 .left)
 
 room : (c : tie.Else2) → Room (now (c .before .before .before .before .before .before .before .args .out)) 0 (slotText (c .before .before .before .before .before .before .before .args .slot .0))
 room c =
@@ -83,7 +83,7 @@ pub slot-text-spec : {M : Type 1} → statement M
 slot-text-spec =
     tie.close
     (tie.spec
-    within-requires
+    in-run-requires
     returns
     length-requires
     add-fits

@@ -1,8 +1,8 @@
--- `number::within` meets its contract.
+-- `order::within` meets its contract.
 -- Assumes nothing.
 use borrow.Author.Tests.{le-leb, lt-leb}
-use Rattle.number.proofs.within.Statement.{statement}
-use Rattle.number.proofs.within.Tie as tie
+use Rattle.order.proofs.within.Statement.{statement}
+use Rattle.order.proofs.within.Tie as tie
 
 returns : tie.Need-returns
 returns c = simp (le-leb _ _ (c .if1 .taken))
