@@ -6,6 +6,7 @@ use second::order::Slot;
 use second::pool::Entry;
 use second::samples::{self, Case, BLOCK};
 use trials::both::{self, CALLS};
+use trials::rounds::{all_are_made, rounds};
 
 /// Makes every call on copies of a case.
 fn alike(case: &Case) {
@@ -139,7 +140,7 @@ fn every_bit_and_two_bits_flipped() {
     }
     assert!(bits > 14_000, "{bits}");
     let mut chance = Chance::of_seed(8);
-    for _ in 0..6_000 {
+    for _ in 0..rounds(6_000) {
         let mut case = good();
         for _ in 0..2 {
             flip(&mut case, chance.below(bits)).unwrap();
@@ -153,7 +154,7 @@ fn every_bit_and_two_bits_flipped() {
 fn every_refusal_by_chance() {
     let mut chance = Chance::of_seed(9);
     let mut met = CALLS.map(|_| BTreeSet::new());
-    for _ in 0..12_000 {
+    for _ in 0..rounds(12_000) {
         let case = chance.issuing();
         for (call, met) in CALLS.iter().zip(&mut met) {
             met.extend((call.make)(&mut case.clone()).map(|refused| refused.number));
@@ -161,6 +162,7 @@ fn every_refusal_by_chance() {
     }
     for (call, met) in CALLS.iter().zip(met) {
         let expected: BTreeSet<u32> = call.refusals.iter().copied().collect();
-        assert_eq!(met, expected, "{}", call.name);
+        assert!(met.is_subset(&expected), "{}: {met:?}", call.name);
+        assert!(!all_are_made() || met == expected, "{}: {met:?}", call.name);
     }
 }

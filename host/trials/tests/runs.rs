@@ -7,11 +7,12 @@ use second::order::{BlockCount, Slot};
 use second::report::{self, Report};
 use second::{chain, refusal, walk, Refusal};
 use trials::both::BOTH;
+use trials::rounds::{all_are_made, rounds};
 use trials::run::{run, Account, Broken, Plan};
 
 /// Runs of so many slots with seeds from 1 on.
 fn runs(n: u32, t: u32, slots: u32, seeds: u64) -> Vec<Account> {
-    (1..=seeds)
+    (1..=rounds(seeds))
         .map(|seed| {
             let plan = Plan { n, t, slots, seed };
             run(plan, &BOTH).unwrap_or_else(|broken| panic!("{plan:?}: {broken:?}"))
@@ -23,6 +24,9 @@ fn runs(n: u32, t: u32, slots: u32, seeds: u64) -> Vec<Account> {
 fn were_disturbed(accounts: &[Account]) {
     assert!(accounts.iter().all(|account| account.settled > 20));
     assert!(accounts.iter().all(|account| account.pooled > 20));
+    if !all_are_made() {
+        return;
+    }
     assert!(accounts.iter().any(|account| account.forks > 0));
     let refused: BTreeSet<u32> = accounts
         .iter()

@@ -8,6 +8,7 @@ use second::report::station;
 use second::samples::{self, block, order};
 use second::{chain, number};
 use trials::programs::{program, root};
+use trials::rounds::rounds;
 
 /// What the program writes. It need not read all of its input.
 fn printed(input: &[u8]) -> String {
@@ -179,7 +180,8 @@ fn longer_inputs() {
 fn changed_bytes() {
     let (genesis, held) = several_displays();
     let good = input(&genesis, &[10], &held);
-    for place in (0..good.len()).step_by(3) {
+    let places = rounds(good.len() as u64 / 3) as usize;
+    for place in (0..good.len()).step_by(good.len() / places) {
         for change in [1, 0x80] {
             let mut changed = good.clone();
             changed[place] ^= change;

@@ -81,8 +81,10 @@ fn main() {
 
 #[cfg(test)]
 mod tests {
+    use trials::rounds::rounds;
+
     #[test]
     fn some_rounds() {
-        (1..=4_000).for_each(super::round);
+        (1..=rounds(4_000)).for_each(super::round);
     }
 }

@@ -35,6 +35,7 @@ pub fn walk_step(chain: &[u8], at: usize) -> Result<Option<(Block, usize)>, Refu
 mod tests {
     use super::*;
     use crate::both;
+    use crate::rounds::rounds;
     use ledger::raw;
     use second::chance::Chance;
     use second::samples::{self, FILLER};
@@ -74,7 +75,7 @@ mod tests {
             }
         }
         let mut chance = Chance::of_seed(4);
-        for _ in 0..4_000 {
+        for _ in 0..rounds(4_000) {
             let block = chance.block().bytes();
             let bytes = chance.faulty(block);
             reads_alike(&bytes, chance.place(bytes.len()));
@@ -90,7 +91,7 @@ mod tests {
     #[test]
     fn blocks_are_written_alike() {
         let mut chance = Chance::of_seed(5);
-        for _ in 0..4_000 {
+        for _ in 0..rounds(4_000) {
             let block = chance.block();
             let needed = block.bytes().len();
             for at in [0, 5, needed, usize::MAX] {

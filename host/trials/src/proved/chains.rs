@@ -60,6 +60,7 @@ pub fn report(
 mod tests {
     use super::*;
     use crate::both;
+    use crate::rounds::rounds;
     use ledger::raw;
     use second::chance::Chance;
     use second::samples::{self, Case};
@@ -147,9 +148,11 @@ mod tests {
     fn by_chance() {
         let mut chance = Chance::of_seed(6);
         let mut accepted = 0;
-        for _ in 0..10_000 {
-            accepted += u32::from(call(&mut chance.exchange()).is_none());
+        let rounds = rounds(10_000);
+        for _ in 0..rounds {
+            accepted += u64::from(call(&mut chance.exchange()).is_none());
         }
-        assert!((500..9_500).contains(&accepted), "{accepted} accepted");
+        let share = 100 * accepted / rounds;
+        assert!((5..95).contains(&share), "{share} in 100 accepted");
     }
 }

@@ -20,6 +20,7 @@ pub fn digest(message: &[u8]) -> Result<[u8; 32], Refusal> {
 #[cfg(test)]
 mod tests {
     use crate::both;
+    use crate::rounds::rounds;
     use ledger::{raw, BlockCount};
     use second::chance::Chance;
     use second::number;
@@ -49,7 +50,7 @@ mod tests {
             }
         }
         let mut chance = Chance::of_seed(1);
-        for _ in 0..2_000 {
+        for _ in 0..rounds(2_000) {
             let bytes = chance.array::<12>().map(|byte| byte | (byte << 5 & 0x80));
             reads_alike(&bytes, chance.place(12));
             reads_alike(&number::bytes(chance.number()), 0);
@@ -59,7 +60,7 @@ mod tests {
     #[test]
     fn numbers_are_written_alike() {
         let mut chance = Chance::of_seed(2);
-        for _ in 0..2_000 {
+        for _ in 0..rounds(2_000) {
             let value = chance.number();
             let length = chance.below(12);
             let at = chance.of(&[0, 3, length, usize::MAX]);

@@ -64,6 +64,7 @@ pub fn append(
 #[cfg(test)]
 mod tests {
     use crate::both::{Call, CALLS};
+    use crate::rounds::rounds;
     use second::chance::Chance;
     use second::samples::{self, Case};
 
@@ -98,13 +99,14 @@ mod tests {
     fn by_chance() {
         let mut chance = Chance::of_seed(7);
         let mut accepted = [0; CALLS.len()];
-        for _ in 0..4_000 {
+        let rounds = rounds(4_000);
+        for _ in 0..rounds {
             let case = chance.issuing();
             for (accepted, call) in accepted.iter_mut().zip(calls(18)) {
-                *accepted += u32::from((call.make)(&mut case.clone()).is_none());
+                *accepted += u64::from((call.make)(&mut case.clone()).is_none());
             }
         }
-        let often = |count| (400..3_600).contains(count);
+        let often = |count: &u64| (10..90).contains(&(100 * count / rounds));
         assert_eq!(calls(18).count(), 4);
         assert!(accepted[..4].iter().all(often), "{accepted:?} accepted");
     }

@@ -22,6 +22,7 @@ pub fn turn(table: &Genesis, slot: Slot) -> u32 {
 mod tests {
     use super::*;
     use crate::both;
+    use crate::rounds::rounds;
     use ledger::{genesis_fault, raw, BlockCount};
     use second::chance::Chance;
     use second::samples;
@@ -68,7 +69,7 @@ mod tests {
             reads_alike(&bytes);
         }
         let mut chance = Chance::of_seed(3);
-        for _ in 0..2_000 {
+        for _ in 0..rounds(2_000) {
             let bytes = chance.table().bytes();
             reads_alike(&bytes);
             reads_alike(&chance.faulty(bytes));
