@@ -34,3 +34,55 @@ impl<'a> Iterator for Blocks<'a> {
 }
 
 impl FusedIterator for Blocks<'_> {}
+
+#[cfg(test)]
+mod tests {
+    use super::*;
+    use crate::{write_block, BlockCount, Front, Kind, Orders, Slot};
+    use std::vec::Vec;
+
+    fn block(slot: u32) -> Block {
+        Block {
+            front: Front {
+                link: [1; 32],
+                orders: Orders::default(),
+                slot: Slot(slot),
+                slot_signature: [2; 64],
+            },
+            block_signature: [3; 64],
+        }
+    }
+
+    /// Blocks of slots 1, 2 and 3, of 162 bytes each.
+    fn chain() -> [u8; 486] {
+        let mut chain = [0; 486];
+        let mut at = 0;
+        for slot in 1..=3 {
+            at = write_block(&block(slot), at, &mut chain).unwrap();
+        }
+        assert_eq!(at, chain.len());
+        chain
+    }
+
+    #[test]
+    fn one_by_one_to_the_end() {
+        let chain = chain();
+        let read: Result<Vec<_>, Refusal> = blocks(&chain).collect();
+        let expected: Vec<_> = (1..).map(block).zip(chain.chunks(162)).collect();
+        assert_eq!(read, Ok(expected));
+        assert_eq!(blocks(&[]).next(), None);
+    }
+
+    /// The refusal is given once, and nothing behind it.
+    #[test]
+    fn to_the_first_that_cannot_be_read() {
+        let chain = chain();
+        let mut steps = blocks(&chain[..485]).skip(2);
+        let refused = Refusal {
+            kind: Kind::Cut,
+            place: BlockCount(0),
+        };
+        assert_eq!(steps.next(), Some(Err(refused)));
+        assert_eq!((steps.next(), steps.next()), (None, None));
+    }
+}

@@ -216,10 +216,10 @@ macro_rules! calls {
         fn ledger_choose(genesis: &[u8], clock: Slot, held: &[u8], delivered: &[u8], verdicts: &[u8]) -> ChooseAnswer;
         fn ledger_adopt(genesis: &[u8], clock: Slot, held: &mut [u8], length: usize, delivered: &[u8], verdicts: &[u8]) -> AdoptAnswer;
         fn ledger_pool_order(genesis: &[u8], clock: Slot, held: &[u8], length: usize, pool: Pool, order: Order) -> PoolAnswer;
-        fn ledger_draft(genesis: &[u8], clock: Slot, held: &[u8], length: usize, pool: Pool, controller: u32, slot_signature: Signature, out: &mut [u8])
-            -> IssueAnswer;
-        fn ledger_block_text(genesis: &[u8], clock: Slot, held: &[u8], length: usize, pool: Pool, controller: u32, slot_signature: Signature, out: &mut [u8])
-            -> IssueAnswer;
+        fn ledger_draft(genesis: &[u8], clock: Slot, held: &[u8], length: usize, pool: Pool, controller: u32, slot_signature: Signature,
+                        out: &mut [u8]) -> IssueAnswer;
+        fn ledger_block_text(genesis: &[u8], clock: Slot, held: &[u8], length: usize, pool: Pool, controller: u32, slot_signature: Signature,
+                             out: &mut [u8]) -> IssueAnswer;
         fn ledger_append(genesis: &[u8], clock: Slot, held: &mut [u8], length: usize, pool: Pool, controller: u32, slot_signature: Signature,
                          block_signature: Signature) -> IssueAnswer;
         fn ledger_report(genesis: &[u8], clock: Slot, held: &[u8], length: usize) -> ReportAnswer;
@@ -358,43 +358,16 @@ mod tests {
         let (chain, now, pool) = (chain(), Slot(2), Pool::EMPTY);
         let (one, other) = (Signature([7; 64]), Signature([8; 64]));
         for [genesis, held, out] in emptied([&GENESIS, &chain, &[0; 192]]) {
-            let length = held.len();
-            same!(ledger_pool_order(genesis, now, held, length, pool, ORDER));
-            same!(ledger_draft(
-                genesis,
-                now,
-                held,
-                length,
-                pool,
-                1,
-                one,
-                &mut out.to_vec()
-            ));
-            same!(ledger_block_text(
-                genesis,
-                now,
-                held,
-                length,
-                pool,
-                1,
-                one,
-                &mut out.to_vec()
-            ));
+            let (at, held_mut, out) = (held.len(), &mut held.to_vec(), &mut out.to_vec());
+            same!(ledger_pool_order(genesis, now, held, at, pool, ORDER));
+            same!(ledger_draft(genesis, now, held, at, pool, 1, one, out));
+            same!(ledger_block_text(genesis, now, held, at, pool, 1, one, out));
             same!(ledger_append(
-                genesis,
-                now,
-                &mut held.to_vec(),
-                length,
-                pool,
-                1,
-                one,
-                other
+                genesis, now, held_mut, at, pool, 1, one, other
             ));
         }
-        assert_eq!(
-            nulls::ledger_pool_order(&GENESIS, now, &[], 0, pool, ORDER).refusal,
-            0
-        );
+        let pooled = nulls::ledger_pool_order(&GENESIS, now, &[], 0, pool, ORDER);
+        assert_eq!(pooled.refusal, 0);
         let drafted = nulls::ledger_draft(&GENESIS, now, &[], 0, pool, 1, one, &mut [0; 192]);
         assert_eq!((drafted.refusal, drafted.length), (0, 98));
     }
