@@ -8,7 +8,8 @@ use mathlib.Core.Path.{_≡_}
 use mathlib.Core.Bool.{Bool}
 use mathlib.Core.List.{List, [], _∷_, _++_}
 use lib.ListN.{length}
-use Rattle.agreement.specs.Core.{Setting, goodBetween, Windows, depthFor, Turns, Begins, settled, Parted, Viable, Laws}
+use Rattle.laws.specs.Depth.{depthFor}
+use Rattle.agreement.specs.Core.{Setting, goodBetween, Windows, Turns, Begins, settled, Parted, Viable, Laws}
 use Rattle.agreement.proofs.Windows.{windows}
 use Rattle.agreement.proofs.Chains.{settled-parts, issued-unsettled}
 use Rattle.agreement.proofs.Growth.{growth, some-viable}
@@ -18,7 +19,7 @@ use Rattle.agreement.proofs.Agree.{same-slot, later-chain, later-settle
 pub settled-blocks-are-the-front : (s : Setting) → Laws s → (depth j : ℕ) (c : List (s .Block)) → s .valid c → Parted s depth j (settled s depth j c) c
 settled-blocks-are-the-front s laws depth j c passes = settled-parts s depth j 0 c (laws .rises c passes)
 
--- section 4; another depth only brings another theorem in this one's place
+-- section 4
 pub fewer-than-a-third-are-bad : (s : Setting) (n t : ℕ) (faulty : ℕ → Bool) → Turns s n t faulty → Windows s (depthFor n t)
 fewer-than-a-third-are-bad = windows
 

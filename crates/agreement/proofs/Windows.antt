@@ -1,13 +1,15 @@
--- Section 4 of the argument: with n at least 5t + 1, fewer than a third of any window of 3t + 1 slots or more are bad.
+-- Section 4 of the argument: with n at least 3t + 1, fewer than a third of any window of `depthFor n t` slots or more are bad. A window is some rounds of
+-- turns and a part of one.
 -- Assumes nothing.
-use Prim.Native.Nat.{ℕ, zero, suc, _+_, _-_, _*_, _%_, _≤_, _<_}
-use mathlib.Core.Path.{_≡_, sym, ap, _∙_}
+use Prim.Native.Nat.{ℕ, zero, suc, _+_, _-_, _*_, _/_, _%_, _≤_, _<_}
+use mathlib.Core.Path.{_≡_, sym, ap, subst, _∙_}
 use mathlib.Core.Bool.{Bool, not, Bool·not-not}
-use native.Mathlib.Nat.{mod-eq-of-lt, add-mod-right}
+use native.Mathlib.Nat.{mod-eq-of-lt, add-mod-right, mod-lt, div-add-mod', suc-mul, mul-add, mul-assoc, mul-comm, mul-left-comm, mul-le-mul-left, mul-le-mul-right}
 use native.Mathlib.Omega.{arith}
 use Rattle.laws.specs.Pick.{pick}
+use Rattle.laws.specs.Depth.{depthFor}
 use Rattle.laws.proofs.Cases.{lt-cases}
-use Rattle.agreement.specs.Core.{Setting, howMany, bad, badBetween, Windows, depthFor, Enough, Turns}
+use Rattle.agreement.specs.Core.{Setting, howMany, bad, badBetween, Windows, Enough, Turns}
 use Rattle.agreement.proofs.Counts.{no-slot, one-more, between, at-most, alike}
 
 module _ (n : ℕ) (test : ℕ → Bool) (again : (i : ℕ) → test (suc (i + n)) ≡ test (suc i)) where
@@ -24,23 +26,64 @@ module _ (n : ℕ) (test : ℕ → Bool) (again : (i : ℕ) → test (suc (i + n
     short : (a r : ℕ) → r ≤ n → howMany test 0 (a + r) ≤ howMany test 0 a + t
     short a r h = omega (arith, between test (a + r) (a + n) (omega arith), round a)
 
-    -- one round less: what is left is a window as long as the depth, or longer, or fewer slots than that
-    less : (a slots : ℕ) → n < slots
-        → (depthFor n t ≤ slots - n → 3 * howMany test 0 (a + (slots - n)) < 3 * howMany test 0 a + (slots - n))
-        → 3 * howMany test 0 (a + slots) < 3 * howMany test 0 a + slots
-    less a slots more rest =
-        let r = slots - n in
-        let e : a + slots ≡ a + r + n = omega arith in
-        let whole = ap (howMany test 0) e ∙ round (a + r) in
-        lt-cases (3 * t) r (λ many. omega (arith, whole, rest (omega arith)))
-        (λ some. omega (arith, whole, at-most test a r, short a r (omega arith)))
+    -- q rounds and r slots more hold q times what a round holds, and what the r slots hold
+    rounds : (q a r : ℕ) → howMany test 0 (a + (q * n + r)) ≡ howMany test 0 (a + r) + q * howMany test 0 n
+    rounds zero a r = let e : a + (0 * n + r) ≡ a + r = omega arith in omega (arith, ap (howMany test 0) e)
+    rounds (suc q) a r =
+        let e : a + (suc q * n + r) ≡ a + (q * n + r) + n = omega (arith, suc-mul q n) in
+        omega (arith, ap (howMany test 0) e, round (a + (q * n + r)), rounds q a r, suc-mul q (howMany test 0 n))
 
-    -- `most` bounds the slots
-    third : (most a slots : ℕ) → slots ≤ most → depthFor n t ≤ slots → 3 * howMany test 0 (a + slots) < 3 * howMany test 0 a + slots
-    third zero a slots h k = absurd (omega arith)
-    third (suc most) a slots h k =
-        lt-cases n slots (λ more. less a slots more (λ many. third most a (slots - n) (omega arith) many))
-        (λ one. omega (arith, short a slots one))
+    -- how far n lies above 3t, and how often that goes into 2t
+    abbrev spare : ℕ
+    spare = n - 3 * t
+
+    abbrev times : ℕ
+    times = 2 * t / spare
+
+    depth-is : depthFor n t ≡ 3 * (times * t) + 3 * t + 1
+    depth-is = omega (arith, mul-assoc 3 t (times + 1), mul-add t times 1, mul-comm t times)
+
+    -- few rounds: no more bad slots than the depth allows
+    few-rounds : (q a r : ℕ) → r ≤ n → q ≤ times → depthFor n t ≤ q * n + r
+        → 3 * howMany test 0 (a + (q * n + r)) < 3 * howMany test 0 a + (q * n + r)
+    few-rounds q a r part some h =
+        omega (
+          arith,
+          rounds q a r,
+          short a r part,
+          mul-le-mul-left q few,
+          mul-le-mul-right t some,
+          depth-is,
+        )
+
+    -- many rounds: in each of them `spare` slots more are good than three times its bad ones, together more than 2t
+    many-rounds : (q a r : ℕ) → r ≤ n → times < q → 3 * howMany test 0 (a + (q * n + r)) < 3 * howMany test 0 a + (q * n + r)
+    many-rounds q a r part more =
+        let whole : 3 * t + spare ≡ n = omega (arith, enough) in
+        let parts : q * n ≡ 3 * (q * t) + q * spare = sym (ap (λ (m : ℕ). q * m) whole) ∙ mul-add q (3 * t) spare ∙ ap (λ (m : ℕ). m + q * spare) (mul-left-comm q 3 t) in
+        let above : 2 * t < times * spare + spare = omega (arith, div-add-mod' (2 * t) spare, mod-lt (2 * t) {m = spare} (omega (arith, enough))) in
+        omega (
+          arith,
+          rounds q a r,
+          short a r part,
+          at-most test a r,
+          mul-le-mul-left q few,
+          parts,
+          above,
+          mul-le-mul-right spare more,
+          suc-mul times spare,
+        )
+
+    third : (a slots : ℕ) → depthFor n t ≤ slots → 3 * howMany test 0 (a + slots) < 3 * howMany test 0 a + slots
+    third a slots h =
+        let q = slots / n in
+        let r = slots % n in
+        let some : 0 < n = omega (arith, enough) in
+        let is : q * n + r ≡ slots = div-add-mod' slots n in
+        let part = mod-lt slots {m = n} some in
+        subst (λ (l : ℕ). 3 * howMany test 0 (a + l) < 3 * howMany test 0 a + l) is
+        (lt-cases times q (λ more. many-rounds q a r (omega arith) more)
+        (λ few-ones. few-rounds q a r (omega arith) few-ones (omega (arith, is))))
 
 module _ (s : Setting) (n t : ℕ) (faulty : ℕ → Bool) (turns : Turns s n t faulty) where
   -- whether the slot is a faulty controller's turn, past the end of the run too
@@ -64,5 +107,5 @@ module _ (s : Setting) (n t : ℕ) (faulty : ℕ → Bool) (turns : Turns s n t 
   pub windows : Windows s (depthFor n t)
   windows from slots h in-run =
       let few : howMany theirs 0 n ≤ t = omega (arith, first, turns .few) in
-      let fewer = third n theirs again t (turns .enough) few slots from slots (omega arith) h in
+      let fewer = third n theirs again t (turns .enough) few from slots h in
       omega (arith, fewer, between theirs from (from + slots) (omega arith), in-the-run from (from + slots) in-run)

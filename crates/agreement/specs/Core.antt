@@ -42,13 +42,9 @@ badBetween s = howMany (bad s)
 abbrev pub Windows : Setting → ℕ → Type 0
 Windows s depth = (from slots : ℕ) → depth ≤ slots → from + slots ≤ s .end → 3 * badBetween s from (from + slots) < slots
 
--- of n controllers t are faulty: a block is settled when it lies more than so many slots back, 01's 3t + 1
-abbrev pub depthFor : (n t : ℕ) → ℕ
-depthFor n t = 3 * t + 1
-
--- controllers enough for t faulty ones
+-- 02, e: "every n of at least 3t + 1"
 abbrev pub Enough : ℕ → ℕ → Type 0
-Enough n t = 5 * t + 1 ≤ n
+Enough n t = 3 * t + 1 ≤ n
 
 -- n controllers take turns, and no more than t of them are faulty
 pub record Turns (s : Setting) (n t : ℕ) (faulty : ℕ → Bool) : Type 0 where

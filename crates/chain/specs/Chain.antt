@@ -68,7 +68,7 @@ abbrev pub atBlock : {A : Type 0} → ℕ → Told A → Told A
 atBlock place (gives a) = gives a
 atBlock place (refuses number _) = refuses number place
 
--- "A block is settled exactly if its slot + 3t + 1 < now."
+-- 02, e: "Settled means slot + D < now." D is the depth of the table
 abbrev pub settles : Opened → ℕ → Bool
 settles o stamp = ltb (stamp + depth (o .table)) (o .clock .0)
 

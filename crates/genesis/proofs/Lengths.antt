@@ -17,7 +17,7 @@ use Rattle.number.specs.Number.{numberAt}
 use Rattle.number.proofs.Groups.{number-ends}
 use Rattle.number.proofs.Written.{shortest}
 use Rattle.number.proofs.RoundTrip.{number-inverse}
-use Rattle.genesis.specs.Genesis.{headAt, rules, ended, genesisOf}
+use Rattle.genesis.specs.Genesis.{headAt, enough, rules, ended, genesisOf}
 use Rattle.genesis.specs.declared.Genesis.{Genesis}
 use Rattle.genesis.proofs.Faults.{no-fault}
 
@@ -45,14 +45,14 @@ module _ (s : List ℕ) (bytes : Bytes s) where
       let (fine, _) = unless-gives (both (rules (head .value)) (ended s (releases .next + 32 * head .value .n))) 1 0 _ g last in
       let (keeps, ends) = both-true (rules (head .value)) (ended s (releases .next + 32 * head .value .n)) fine in
       let h = head .value in
-      let (n-fits, others) = both-true (within 1 31 (h .n)) (both (leb (5 * h .t + 1) (h .n)) (within 1 64 (h .u))) keeps in
-      let (t-fits, u-fits) = both-true (leb (5 * h .t + 1) (h .n)) (within 1 64 (h .u)) others in
+      let (many, u-fits) = both-true (enough (h .n) (h .t)) (within 1 64 (h .u)) keeps in
+      let (n-fits, t-fits) = both-true (within 1 31 (h .n)) (leb (3 * h .t + 1) (h .n)) many in
       let n-is : n .value ≡ h .n = ap (λ q. q .value .n) (gives-same same) in
       let t-is : t .value ≡ h .t = ap (λ q. q .value .t) (gives-same same) in
       let u-is : u .value ≡ h .u = ap (λ q. q .value .u) (gives-same same) in
       let next-is : u .next ≡ head .next = ap (λ q. q .next) (gives-same same) in
       let few = within-true 1 31 (h .n) n-fits .1 in
-      let third = leb-true (5 * h .t + 1) (h .n) t-fits in
+      let third = leb-true (3 * h .t + 1) (h .n) t-fits in
       let dropped = within-true 1 64 (h .u) u-fits .1 in
       let n-next = short-number 0 n n-reads (omega arith) in
       let t-next = short-number (n .next) t t-reads (omega arith) in

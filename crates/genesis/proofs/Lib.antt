@@ -3,3 +3,4 @@ pub mod Sound
 pub mod Answers
 pub mod Lengths
 pub mod Theorems
+pub mod Depths

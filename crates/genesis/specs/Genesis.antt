@@ -9,6 +9,7 @@ use lib.ListN.{length}
 use Rattle.laws.specs.Pick.{pick}
 use Rattle.laws.specs.Told.{Told, gives, refuses, Found, found, then, unless}
 use Rattle.laws.specs.Every.{both, within}
+use Rattle.laws.specs.Depth.{depthFor}
 use Rattle.laws.specs.Repeated.{repeated}
 use Rattle.number.specs.Number.{numberAt}
 use Rattle.genesis.specs.declared.Genesis.{Genesis}
@@ -20,9 +21,13 @@ headAt s =
     then (numberAt s 0) λ n. then (numberAt s (n .next)) λ t. then (numberAt s (t .next)) λ u.
     found (record { n = n .value; t = t .value; u = u .value }) (u .next)
 
--- "n is 1 to 31. n must be at least 5t + 1 .. u, the slots that an order stays pooled, is 1 to 64."
+-- "n is 1 to 31"; 02, e: "Allow every n of at least 3t + 1"
+abbrev pub enough : (n t : ℕ) → Bool
+enough n t = both (within 1 31 n) (leb (3 * t + 1) n)
+
+-- "u, the slots that an order stays pooled, is 1 to 64"
 abbrev pub rules : Head → Bool
-rules h = both (within 1 31 (h .n)) (both (leb (5 * h .t + 1) (h .n)) (within 1 64 (h .u)))
+rules h = both (enough (h .n) (h .t)) (within 1 64 (h .u))
 
 -- "and nothing after": what may follow the keys, which end at a place
 abbrev pub ended : List ℕ → ℕ → Bool
@@ -53,9 +58,9 @@ turn g slot = pick (ltb 0 (g .n)) ((slot - 1) % g .n + 1) 0
 abbrev pub clockFits : Genesis → ℕ → Bool
 clockFits g clock = within 1 256 clock
 
--- how many slots a block must lie back to be settled
+-- how many slots a block must lie back to be settled: none is told for numbers that no genesis gives
 abbrev pub depth : Genesis → ℕ
-depth g = 3 * g .t + 1
+depth g = pick (enough (g .n) (g .t)) (depthFor (g .n) (g .t)) 0
 
 -- the place of a controller's key in the bytes: 1, then 12
 abbrev pub keyAt : List ℕ → ℕ → Told ℕ

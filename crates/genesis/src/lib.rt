@@ -145,13 +145,14 @@ fn checked(bytes: &[u8], head: Head, releases: [Release; 64], keys: usize) -> Ta
 fn rules(head: Head) -> bool
     ensures { λ r. ⌜ r ≡ spec.rules head ⌝ }
 {
-    if !within(1, head.n, 31) {
-        return false;
-    }
-    if (head.n as u64) < 5 * head.t as u64 + 1 {
-        return false;
-    }
-    within(1, head.u, 64)
+    enough(head.n, head.t) && within(1, head.u, 64)
+}
+
+// Whether there are controllers enough for t faulty ones.
+fn enough(n: u32, t: u32) -> bool
+    ensures { λ r. ⌜ r ≡ spec.enough n t ⌝ }
+{
+    within(1, n, 31) && 3 * t as u64 + 1 <= n as u64
 }
 
 // Whether the bytes end with n keys that begin at a place.
@@ -205,7 +206,13 @@ pub fn clock_fits(table: Genesis, clock: Slot) -> bool
 pub fn depth(table: Genesis) -> u64
     ensures { λ r. ⌜ r ≡ spec.depth table ⌝ }
 {
-    3 * table.t as u64 + 1
+    if !enough(table.n, table.t) {
+        return 0;
+    }
+    let n = table.n as u64;
+    let t = table.t as u64;
+    let times = 2 * t / (n - 3 * t);
+    3 * t * (times + 1) + 1
 }
 
 // Where a controller's key is.

@@ -10,3 +10,4 @@ pub mod Bytes
 pub mod Run
 pub mod Fold
 pub mod Contracts
+pub mod Depth

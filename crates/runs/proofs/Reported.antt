@@ -11,6 +11,7 @@ use Rattle.laws.specs.Fold.{folded}
 use Rattle.laws.proofs.Told.{gives-same, then-gives}
 use Rattle.laws.proofs.Taken.{joined-append}
 use Rattle.genesis.specs.Genesis.{turn, depth}
+use Rattle.genesis.proofs.Sound.{depth-is}
 use Rattle.block.specs.Block.{Parts, blockBytes}
 use Rattle.chain.specs.Chain.{none}
 use Rattle.chain.specs.Blocks.{chainBytes, followed, NoneFell}
@@ -31,7 +32,9 @@ bytes-begin xs ys (rest, e) = (chainBytes rest, ap chainBytes e ∙ joined-appen
 
 module _ (r : Run) (premises : Premises r) where
   window : Windows (setting r) (depth (r .table))
-  window = argument.fewer-than-a-third-are-bad (setting r) (r .table .n) (r .table .t) (r .faulty) (turns r premises)
+  window =
+      subst (Windows (setting r)) (sym (depth-is (r .genesis) (r .table) (premises .reads)))
+      (argument.fewer-than-a-third-are-bad (setting r) (r .table .n) (r .table .t) (r .faulty) (turns r premises))
 
   module _ (i k : ℕ) (i-correct : correct r i) (k-correct : correct r k) (j j′ : ℕ) (in-run : InRun r j) (in-run′ : InRun r j′) (later : j ≤ j′)
       (a : Report) (says : reports r i j ≡ gives a) (b : Report) (says′ : reports r k j′ ≡ gives b) where

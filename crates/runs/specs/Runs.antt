@@ -174,7 +174,7 @@ abbrev pub LastOf : List ℕ → Parts → Type 0
 LastOf chain p = (before : List Parts) × Each Fits (before ++ (p ∷ [])) × (chain ≡ chainBytes (before ++ (p ∷ [])))
 
 pub record Premises (r : Run) : Type 0 where
-  -- "n at least 5t + 1. Correct ones share one genesis with this n and t": a table that reads has n at least 5t + 1
+  -- "Correct ones share one genesis with this n and t": a table that reads has n at least 3t + 1 (02, e)
   pub reads : genesisOf (r .genesis) ≡ gives (r .table)
   -- "n controllers, at most t faulty"
   pub few : howMany (r .faulty) 0 (r .table .n) ≤ r .table .t

@@ -1,0 +1,7 @@
+-- 02, e: how many slots a block must lie back to be settled. It is what the code answers and what the argument of demand 3 is about.
+-- Assumes nothing.
+use Prim.Native.Nat.{ℕ, _+_, _-_, _*_, _/_}
+
+-- "D = 3t(k + 1) + 1, where k is 2t divided by n − 3t, rounded down"
+abbrev pub depthFor : (n t : ℕ) → ℕ
+depthFor n t = 3 * t * (2 * t / (n - 3 * t) + 1) + 1
