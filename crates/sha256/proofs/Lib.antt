@@ -1,5 +1,6 @@
 pub mod Answers
 pub mod Bytes
+pub mod Digits
 pub mod Padded
 pub mod Schedule
 pub mod Working
