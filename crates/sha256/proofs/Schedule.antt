@@ -1,44 +1,95 @@
--- The message schedule, made in place: the words that are there already are the definition's.
+-- The message schedule word by word, and its window of sixteen words.
 -- Assumes nothing.
-use mathlib.Core.Path.{_≡_, refl, sym, _∙_}
-use mathlib.Core.List.{List}
-use Prim.Native.Nat.{ℕ, zero, suc, _-_, _<_, _≤_}
+use mathlib.Core.Path.{_≡_, refl, sym, ap, _∙_}
+use mathlib.Core.List.{List, [], _∷_, _++_}
+use Prim.Native.Nat.{ℕ, zero, suc, _+_, _-_, _<_, _≤_}
 use native.Mathlib.Omega.{arith}
-use lib.ListN.{length, getD, take, set, length-set}
-use lib.Seq.{take-all, take-suc-set, getD-take}
+use lib.Dec.{ltb}
+use lib.ListN.{length, getD, length-append, List·getD-append}
+use lib.Seq.{getD-append-seam, ext-getD}
 use borrow.Author.Tests.{lt-ltb, le-ltb}
-use Rattle.laws.specs.Tabulate.{tabulate}
-use Rattle.laws.proofs.Tabulate.{tabulate-more}
+use Rattle.laws.specs.Pick.{pick}
+use Rattle.laws.proofs.Cases.{lt-cases}
 use Rattle.sha256.specs.Sha256.{mixed, schedule}
-use Rattle.sha256.specs.Steps.{Made}
+use Rattle.sha256.specs.Steps.{scheduled, wordsFrom, mixedOf, movedOn}
 
--- a block's own words come first
-pub early : (block : List ℕ) (t : ℕ) → t ≤ 16 → tabulate t (λ i. getD block i 0) ≡ schedule block t
-unfolding schedule
-early block zero few = refl
-early block (suc t) few = rw (tabulate-more t (λ i. getD block i 0), early block t (omega arith)) (simp (lt-ltb _ _ few))
+-- the place n after t
+abbrev later : ℕ → ℕ → ℕ
+later zero t = t
+later (suc n) t = suc (later n t)
 
--- a word mixed from all of w is mixed from what stands below t
-mixed-take : (w : List ℕ) (t : ℕ) → 16 ≤ t → mixed w t ≡ mixed (take t w) t
-mixed-take w t h =
-    let two : t - 2 < t = omega arith in
-    let seven : t - 7 < t = omega arith in
-    let fifteen : t - 15 < t = omega arith in
-    let sixteen : t - 16 < t = omega arith in
-    rw (getD-take t w (t - 2) 0, getD-take t w (t - 7) 0, getD-take t w (t - 15) 0, getD-take t w (t - 16) 0)
+module _ (block : List ℕ) where
+  long : (n : ℕ) → length (schedule block n) ≡ n
+  unfolding schedule
+  long zero = refl
+  long (suc n) = simp length-append (omega (arith, long n))
 
--- one word more
-pub extended : (block w : List ℕ) (t : ℕ) → 16 ≤ t → t < length w → take t w ≡ schedule block t
-    → take (suc t) (set w t (mixed w t)) ≡ schedule block (suc t)
-unfolding schedule
-extended block w t late inside before =
-    take-suc-set w t (mixed w t) inside
-    ∙ rw (mixed-take w t late, before) (simp (le-ltb _ _ late))
+  newest : (t : ℕ) → scheduled block t ≡ pick (ltb t 16) (getD block t 0) (mixed (schedule block t) t)
+  unfolding schedule scheduled
+  newest t =
+      let word = pick (ltb t 16) (getD block t 0) (mixed (schedule block t) t) in
+      ap (λ i. getD (schedule block t ++ (word ∷ [])) i 0) (sym (long t)) ∙ getD-append-seam (schedule block t) word [] 0
 
-pub made-next : (block w w′ : List ℕ) (t next : ℕ) → 16 ≤ t → t < 64 → next ≡ suc t → w′ ≡ set w t (mixed w t) → Made block w t → Made block w′ next
-made-next block w w′ t next late inside is after (long, before) =
-    let within : t < length w = omega arith in
-    rw (is, after) (length-set w t (mixed w t) ∙ long, extended block w t late within before)
+  -- a word stays where it is
+  pub kept : (t n : ℕ) → t < n → getD (schedule block n) t 0 ≡ scheduled block t
+  unfolding schedule scheduled
+  kept t zero h = absurd (omega arith)
+  kept t (suc n) h =
+      let word = pick (ltb n 16) (getD block n 0) (mixed (schedule block n) n) in
+      lt-cases t n
+      (λ below. List·getD-append (schedule block n) (word ∷ []) 0 t (omega (arith, long n)) ∙ kept t n below)
+      (λ above.
+      let same : n ≡ t = omega arith in
+      rw same)
 
-pub made-whole : (block w : List ℕ) → Made block w 64 → w ≡ schedule block 64
-made-whole block w (long, made) = sym (take-all 64 w (omega arith)) ∙ made
+  as-given : (t : ℕ) → t < 16 → scheduled block t ≡ getD block t 0
+  as-given t early = newest t ∙ simp (lt-ltb _ _ early)
+
+  -- a word behind the block's own, from those 16, 15, 7 and 2 places before it
+  made : (t b16 b15 b7 b2 : ℕ) → b16 + 16 ≡ t → b15 + 15 ≡ t → b7 + 7 ≡ t → b2 + 2 ≡ t
+      → scheduled block t ≡ mixedOf (scheduled block b16) (scheduled block b15) (scheduled block b7) (scheduled block b2)
+  made t b16 b15 b7 b2 is-16 is-15 is-7 is-2 =
+      let late : 16 ≤ t = omega arith in
+      let at-16 : t - 16 ≡ b16 = omega arith in
+      let at-15 : t - 15 ≡ b15 = omega arith in
+      let at-7 : t - 7 ≡ b7 = omega arith in
+      let at-2 : t - 2 ≡ b2 = omega arith in
+      newest t ∙ simp (le-ltb _ _ late)
+      (rw (
+        at-16,
+        at-15,
+        at-7,
+        at-2,
+        kept b16 t (omega arith),
+        kept b15 t (omega arith),
+        kept b7 t (omega arith),
+        kept b2 t (omega arith),
+      ))
+
+  pub moves : (t : ℕ) → movedOn (wordsFrom block t 16) ≡ wordsFrom block (suc (suc t)) 16
+  unfolding wordsFrom
+  moves t =
+      rw (
+        made (later 16 t) t (later 1 t) (later 9 t) (later 14 t) (omega arith) (omega arith) (omega arith) (omega arith),
+        made (later 17 t) (later 1 t) (later 2 t) (later 10 t) (later 15 t) (omega arith) (omega arith) (omega arith) (omega arith),
+      )
+
+  length-words : (t n : ℕ) → length (wordsFrom block t n) ≡ n
+  unfolding wordsFrom
+  length-words t zero = refl
+  length-words t (suc n) = ap suc (length-words (suc t) n)
+
+  word-at : (t n i : ℕ) → i < n → getD (wordsFrom block t n) i 0 ≡ scheduled block (t + i)
+  unfolding wordsFrom
+  word-at t zero i h = absurd (omega arith)
+  word-at t (suc n) zero h = ap (scheduled block) (omega arith)
+  word-at t (suc n) (suc i) h = word-at (suc t) n i (omega arith) ∙ ap (scheduled block) (omega arith)
+
+  -- the first window is the block
+  pub starts : length block ≡ 16 → block ≡ wordsFrom block 0 16
+  starts whole =
+      ext-getD 0 block (wordsFrom block 0 16) (whole ∙ sym (length-words 0 16))
+      (λ i inside.
+      let early : i < 16 = omega arith in
+      let place : 0 + i ≡ i = omega arith in
+      sym (word-at 0 16 i early ∙ ap (scheduled block) place ∙ as-given i early))

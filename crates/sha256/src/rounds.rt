@@ -1,4 +1,5 @@
-// One block of FIPS 180-4, section 6.2.2: the message schedule of 64 words, and 64 rounds of the eight working words, both by value.
+// One block of FIPS 180-4, section 6.2.2: 64 rounds of the eight working words. Of the message schedule only the last sixteen words are kept, and
+// each word is made as it is needed. Both go by value from helper to helper.
 use crate::bits::big_sigma_0;
 use crate::bits::big_sigma_1;
 use crate::bits::ch;
@@ -8,10 +9,9 @@ use crate::bits::sigma_1;
 use crate::bits::sum;
 ghost use mathlib.Core.Path.{_≡_};
 ghost use mathlib.Core.List.{List};
-ghost use Prim.Native.Nat.{ℕ, _+_, _≤_, _<_};
-ghost use lib.ListN.{getD, set};
+ghost use Prim.Native.Nat.{ℕ, suc, _≤_};
 ghost use Rattle.sha256.specs.Sha256 as sha;
-ghost use Rattle.sha256.specs.Steps.{Made};
+ghost use Rattle.sha256.specs.Steps.{Reached, mixedOf, movedOn};
 
 const ROUND_CONSTANTS: [u32; 64] = [
     0x428a2f98,
@@ -87,12 +87,18 @@ pub fn constants() -> [u32; 64]
     ROUND_CONSTANTS
 }
 
+// The working words, and the window: the sixteen words of the schedule that the next rounds read.
+struct Words {
+    working: [u32; 8],
+    window: [u32; 16],
+}
+
 // The hash after one more block.
 pub fn compress(hash: [u32; 8], block: [u32; 16], constants: &[u32; 64]) -> [u32; 8]
     requires { ⌜ now constants ≡ sha.roundConstants ⌝ }
     ensures { λ r. ⌜ r ≡ sha.compressed hash block ⌝ }
 {
-    let s = rounds(hash, schedule(block), constants);
+    let s = rounds(hash, block, constants);
     [
         sum(hash[0], s[0]),
         sum(hash[1], s[1]),
@@ -105,95 +111,125 @@ pub fn compress(hash: [u32; 8], block: [u32; 16], constants: &[u32; 64]) -> [u32
     ]
 }
 
-fn schedule(block: [u32; 16]) -> [u32; 64]
-    ensures { λ r. ⌜ r ≡ sha.schedule block 64 ⌝ }
-{
-    let mut w = first_words(block);
-    let mut t = 16;
-    while t < 64 {
-        extend_by_eight(&mut w, t);
-        t += 8;
-    }
-    w
-}
-
-// A schedule begins with the block's own words.
-fn first_words(block: [u32; 16]) -> [u32; 64]
-    ensures { λ r. ⌜ Made block r 16 ⌝ }
-{
-    let mut w = [0u32; 64];
-    let mut t = 0;
-    while t < 16 {
-        w[t] = block[t];
-        t += 1;
-    }
-    w
-}
-
-// Eight words at a time, so that each stays in a register for those that follow.
-fn extend_by_eight(w: &mut [u32; 64], t: usize)
-    requires { ⌜ (16 ≤ t) × (t ≤ 56) ⌝ }
-    ensures { λ _. ⌜ ((block : List ℕ) → Made block (now (w .entry)) t → Made block (now (w .exit)) (t + 8)) ⌝ }
-{
-    extend(w, t);
-    extend(w, t + 1);
-    extend(w, t + 2);
-    extend(w, t + 3);
-    extend(w, t + 4);
-    extend(w, t + 5);
-    extend(w, t + 6);
-    extend(w, t + 7);
-}
-
-fn extend(w: &mut [u32; 64], t: usize)
-    requires { ⌜ (16 ≤ t) × (t < 64) ⌝ }
-    ensures { λ _. ⌜ now (w .exit) ≡ set (now (w .entry)) t (sha.mixed (now (w .entry)) t) ⌝ }
-{
-    w[t] = sum(
-        sum(sum(sigma_1(w[t - 2]), w[t - 7]), sigma_0(w[t - 15])),
-        w[t - 16],
-    );
-}
-
-fn rounds(hash: [u32; 8], w: [u32; 64], constants: &[u32; 64]) -> [u32; 8]
+// Written out, with each place in the table a numeral: so each constant becomes part of an instruction, and the table takes no stack.
+fn rounds(hash: [u32; 8], block: [u32; 16], constants: &[u32; 64]) -> [u32; 8]
     requires { ⌜ now constants ≡ sha.roundConstants ⌝ }
-    ensures { λ r. ⌜ r ≡ sha.working w hash 64 ⌝ }
+    ensures { λ r. ⌜ r ≡ sha.working (sha.schedule block 64) hash 64 ⌝ }
 {
-    let mut s = hash;
-    let mut t = 0;
-    while t < 64 {
-        let next = eight_rounds(s, &w, constants, t);
-        s = next;
-        t += 8;
-    }
-    s
+    let w0 = Words {
+        working: hash,
+        window: block,
+    };
+    let w2 = two_rounds(w0, constants, 0);
+    let w4 = two_rounds(w2, constants, 2);
+    let w6 = two_rounds(w4, constants, 4);
+    let w8 = two_rounds(w6, constants, 6);
+    let w10 = two_rounds(w8, constants, 8);
+    let w12 = two_rounds(w10, constants, 10);
+    let w14 = two_rounds(w12, constants, 12);
+    let w16 = two_rounds(w14, constants, 14);
+    let w18 = two_rounds(w16, constants, 16);
+    let w20 = two_rounds(w18, constants, 18);
+    let w22 = two_rounds(w20, constants, 20);
+    let w24 = two_rounds(w22, constants, 22);
+    let w26 = two_rounds(w24, constants, 24);
+    let w28 = two_rounds(w26, constants, 26);
+    let w30 = two_rounds(w28, constants, 28);
+    let w32 = two_rounds(w30, constants, 30);
+    let w34 = two_rounds(w32, constants, 32);
+    let w36 = two_rounds(w34, constants, 34);
+    let w38 = two_rounds(w36, constants, 36);
+    let w40 = two_rounds(w38, constants, 38);
+    let w42 = two_rounds(w40, constants, 40);
+    let w44 = two_rounds(w42, constants, 42);
+    let w46 = two_rounds(w44, constants, 44);
+    let w48 = two_rounds(w46, constants, 46);
+    last_rounds(w48, constants)
 }
 
-// Eight rounds at a time, so that no working word moves from register to register.
-fn eight_rounds(s: [u32; 8], w: &[u32; 64], constants: &[u32; 64], t: usize) -> [u32; 8]
-    requires { ⌜ (now constants ≡ sha.roundConstants) × (t ≤ 56) ⌝ }
-    ensures { λ r. ⌜ ((hash : List ℕ) → s ≡ sha.working (now (w .entry)) hash t → r ≡ sha.working (now (w .entry)) hash (t + 8)) ⌝ }
+// Two rounds from round t on, and the window moved on past their words: short enough that the compiler puts it in at every call.
+fn two_rounds(words: Words, constants: &[u32; 64], t: usize) -> Words
+    requires { ⌜ t ≤ 46 ⌝ }
+    ensures { λ r. ⌜ ((hash block : List ℕ) → now (constants .entry) ≡ sha.roundConstants → Reached hash block t (words .working) (words .window)
+        → Reached hash block (suc (suc t)) (r .working) (r .window)) ⌝ }
 {
-    let s1 = round(s, w, constants, t);
-    let s2 = round(s1, w, constants, t + 1);
-    let s3 = round(s2, w, constants, t + 2);
-    let s4 = round(s3, w, constants, t + 3);
-    let s5 = round(s4, w, constants, t + 4);
-    let s6 = round(s5, w, constants, t + 5);
-    let s7 = round(s6, w, constants, t + 6);
-    round(s7, w, constants, t + 7)
+    let s = words.working;
+    let w = words.window;
+    let half = round(s, constants[t], w[0]);
+    let working = round(half, constants[t + 1], w[1]);
+    let window = moved_on(w);
+    Words { working, window }
 }
 
-fn round(s: [u32; 8], w: &[u32; 64], constants: &[u32; 64], t: usize) -> [u32; 8]
-    requires { ⌜ t < 64 ⌝ }
-    ensures { λ r. ⌜ r ≡ sha.round (getD (now (constants .entry)) t 0) (getD (now (w .entry)) t 0) s ⌝ }
+// The window without its first two words, and with the next two.
+fn moved_on(w: [u32; 16]) -> [u32; 16]
+    ensures { λ r. ⌜ r ≡ movedOn w ⌝ }
+{
+    [
+        w[2],
+        w[3],
+        w[4],
+        w[5],
+        w[6],
+        w[7],
+        w[8],
+        w[9],
+        w[10],
+        w[11],
+        w[12],
+        w[13],
+        w[14],
+        w[15],
+        mixed(w[0], w[1], w[9], w[14]),
+        mixed(w[1], w[2], w[10], w[15]),
+    ]
+}
+
+// A word of the schedule, from those 16, 15, 7 and 2 places before it.
+fn mixed(before_16: u32, before_15: u32, before_7: u32, before_2: u32) -> u32
+    ensures { λ r. ⌜ r ≡ mixedOf before_16 before_15 before_7 before_2 ⌝ }
+{
+    sum(
+        sum(sum(sigma_1(before_2), before_7), sigma_0(before_15)),
+        before_16,
+    )
+}
+
+// The last sixteen rounds, whose words are all in the window.
+fn last_rounds(words: Words, constants: &[u32; 64]) -> [u32; 8]
+    ensures { λ r. ⌜ ((hash block : List ℕ) → now (constants .entry) ≡ sha.roundConstants → Reached hash block 48 (words .working) (words .window)
+        → r ≡ sha.working (sha.schedule block 64) hash 64) ⌝ }
+{
+    let s = words.working;
+    let w = words.window;
+    let s1 = round(s, constants[48], w[0]);
+    let s2 = round(s1, constants[49], w[1]);
+    let s3 = round(s2, constants[50], w[2]);
+    let s4 = round(s3, constants[51], w[3]);
+    let s5 = round(s4, constants[52], w[4]);
+    let s6 = round(s5, constants[53], w[5]);
+    let s7 = round(s6, constants[54], w[6]);
+    let s8 = round(s7, constants[55], w[7]);
+    let s9 = round(s8, constants[56], w[8]);
+    let s10 = round(s9, constants[57], w[9]);
+    let s11 = round(s10, constants[58], w[10]);
+    let s12 = round(s11, constants[59], w[11]);
+    let s13 = round(s12, constants[60], w[12]);
+    let s14 = round(s13, constants[61], w[13]);
+    let s15 = round(s14, constants[62], w[14]);
+    round(s15, constants[63], w[15])
+}
+
+// One round with a constant and a word of the schedule.
+fn round(s: [u32; 8], constant: u32, word: u32) -> [u32; 8]
+    ensures { λ r. ⌜ r ≡ sha.round constant word s ⌝ }
 {
     let t1 = sum(
         sum(
             sum(sum(s[7], big_sigma_1(s[4])), ch(s[4], s[5], s[6])),
-            constants[t],
+            constant,
         ),
-        w[t],
+        word,
     );
     let t2 = sum(big_sigma_0(s[0]), maj(s[0], s[1], s[2]));
     [
