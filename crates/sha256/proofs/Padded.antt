@@ -2,18 +2,23 @@
 -- Assumes nothing.
 use mathlib.Core.Path.{_≡_, sym, ap, _∙_}
 use mathlib.Core.List.{List, _∷_, _++_}
-use Prim.Native.Nat.{ℕ, suc, _+_, _-_, _*_, _/_, _^_, _<_, _≤_}
+use Prim.Native.Nat.{ℕ, suc, _+_, _-_, _*_, _/_, _%_, _^_, _<_, _≤_}
 use native.Mathlib.Omega.{arith}
-use native.Mathlib.Nat.{pow-le-pow-right, div-eq-of-lt}
-use lib.Dec.{lit<}
+use native.Mathlib.Nat.{pow-le-pow-right, div-eq-of-lt, div-one}
+use lib.Dec.{leb, lit<}
 use lib.ListN.{length, getD, replicate, length-append, length-replicate, getD-replicate, List·getD-append}
 use lib.Seq.{getD-append-add, getD-append-seam}
 use borrow.Author.Tests.{le-leb, lt-leb}
+use Rattle.laws.specs.Pick.{pick}
 use Rattle.laws.specs.Tabulate.{tabulate}
 use Rattle.laws.proofs.Cases.{lt-cases}
-use Rattle.laws.proofs.Tabulate.{length-tabulate, getD-tabulate}
-use Rattle.sha256.specs.Sha256.{longest, zeros, lengthByte, padded, wordAt}
-use Rattle.sha256.specs.Steps.{blockCount, tailByte}
+use Rattle.laws.proofs.Tabulate.{length-tabulate, getD-tabulate, tabulate-same}
+use Rattle.sha256.specs.Sha256.{longest, zeros, lengthByte, padded, wordAt, blockAt}
+use Rattle.sha256.specs.Steps.{blockCount, joinedBytes}
+
+-- the byte of a padded message that has `left` bytes from there on: the last eight are the length's, those before them zeros
+abbrev tailByte : ℕ → ℕ → ℕ
+tailByte size left = pick (leb left 8) (lengthByte size (8 - left)) 0
 
 -- "the fewest zeros that make whole blocks"
 pub whole-blocks : (size : ℕ) → size + 1 + zeros size + 8 ≡ 64 * blockCount size
@@ -97,3 +102,48 @@ word-inside m i h =
       byte-of-message m (i + 2) (omega arith),
       byte-of-message m (i + 3) (omega arith),
     )
+
+-- and so is a block
+pub block-inside : (m : List ℕ) (n : ℕ) → 64 * n + 64 ≤ length m → blockAt (padded m) n ≡ blockAt m n
+unfolding blockAt
+block-inside m n h =
+    tabulate-same 16 (λ t. wordAt (padded m) (64 * n + 4 * t)) (λ t. wordAt m (64 * n + 4 * t))
+    (λ t inside. word-inside m (64 * n + 4 * t) (omega arith))
+
+-- behind the message: the byte 80, and zeros up to the last three bytes
+pub byte-end : (m : List ℕ) (i : ℕ) → i ≡ length m → getD (padded m) i 0 ≡ 0x80
+byte-end m i is = rw is (byte-80 m)
+
+pub byte-zero : (m : List ℕ) (i : ℕ) → length m ≤ longest → length m < i → i + 4 ≤ 64 * blockCount (length m) → getD (padded m) i 0 ≡ 0
+byte-zero m i small late inside =
+    byte-behind m i late (omega arith) ∙ tail-zero (length m) (64 * blockCount (length m) - i) small (omega arith)
+
+pub word-is : (m : List ℕ) (i : ℕ) {a b c d : ℕ} → getD (padded m) i 0 ≡ a → getD (padded m) (i + 1) 0 ≡ b → getD (padded m) (i + 2) 0 ≡ c
+    → getD (padded m) (i + 3) 0 ≡ d → joinedBytes a b c d ≡ wordAt (padded m) i
+word-is m i is-a is-b is-c is-d = rw (is-a, is-b, is-c, is-d)
+
+-- a number of three bytes, joined from them
+three-bytes : (n : ℕ) → n < 16777216 → n ≡ joinedBytes (n / 16777216 % 256) (n / 65536 % 256) (n / 256 % 256) (n / 1 % 256)
+three-bytes n small =
+    let none : n / 16777216 % 256 ≡ 0 = omega arith in
+    let upper : n / 65536 % 256 ≡ n / 65536 = omega arith in
+    let lower : (0 * 256 + n / 65536) * 256 + n / 256 % 256 ≡ n / 256 = omega arith in
+    let whole : n / 256 * 256 + n % 256 ≡ n = omega arith in
+    rw (none, upper, lower, div-one n) (sym whole)
+
+-- a word wholly behind the 80 is zero, or the last one, the length in bits
+module _ (m : List ℕ) (i : ℕ) (small : length m ≤ longest) (late : length m < i) where
+  pub word-zero : i + 8 ≤ 64 * blockCount (length m) → 0 ≡ wordAt (padded m) i
+  word-zero inside =
+      word-is m i (byte-zero m i small late (omega arith)) (byte-zero m (i + 1) small (omega arith) (omega arith))
+      (byte-zero m (i + 2) small (omega arith) (omega arith)) (byte-zero m (i + 3) small (omega arith) (omega arith))
+
+  pub word-last : i + 4 ≡ 64 * blockCount (length m) → 8 * length m ≡ wordAt (padded m) i
+  word-last end =
+      let at : (j k : ℕ) → length m < j → j + k ≡ 64 * blockCount (length m) → 0 < k → getD (padded m) j 0 ≡ tailByte (length m) k = λ j k behind is some.
+      let left : 64 * blockCount (length m) - j ≡ k = omega arith in
+      byte-behind m j behind (omega arith) ∙ ap (tailByte (length m)) left in
+      let size = length m in
+      three-bytes (8 * size) (omega arith)
+      ∙ word-is m i (at i 4 late end (lit< tt)) (at (i + 1) 3 (omega arith) (omega arith) (lit< tt))
+      (at (i + 2) 2 (omega arith) (omega arith) (lit< tt)) (at (i + 3) 1 (omega arith) (omega arith) (lit< tt))

@@ -1,22 +1,17 @@
 -- What the private functions answer and keep. No caller of the crate needs these.
 -- Assumes nothing.
-use Prim.Native.Nat.{ℕ, zero, suc, _+_, _-_, _*_, _/_}
+use Prim.Native.Nat.{ℕ, zero, suc, _+_, _*_, _/_}
 use mathlib.Core.Path.{_≡_}
 use mathlib.Core.List.{List, [], _∷_, _++_}
-use lib.Dec.{leb}
 use lib.ListN.{getD}
-use Rattle.laws.specs.Pick.{pick}
 use Rattle.laws.specs.Tabulate.{tabulate}
-use Rattle.sha256.specs.Sha256.{_⊞_, σ₀, σ₁, lengthByte, schedule, working}
+use Rattle.sha256.specs.Sha256.{_⊞_, σ₀, σ₁, schedule, working}
 
 -- the blocks of a padded message
 abbrev pub blockCount : ℕ → ℕ
 blockCount size = (size + 8) / 64 + 1
 
--- the byte of a padded message that has `left` bytes from there on: the last eight are the length's, those before them zeros
-abbrev pub tailByte : ℕ → ℕ → ℕ
-tailByte size left = pick (leb left 8) (lengthByte size (8 - left)) 0
-
+-- four bytes as a word, the highest first
 abbrev pub joinedBytes : (a b c d : ℕ) → ℕ
 joinedBytes a b c d = ((a * 256 + b) * 256 + c) * 256 + d
 

@@ -1,74 +1,30 @@
--- `sha256::padding::block` meets its contract. The loop's invariant: the words below t are the block's.
+-- `sha256::padding::block` meets its contract.
 -- Assumes nothing.
-use mathlib.Core.Path.{refl, ap}
-use mathlib.Core.List.{List}
-use Prim.Native.Nat.{ℕ, _+_, _*_, _-_, _≤_}
-use native.Mathlib.Numerals.{add-one}
-use native.Mathlib.Omega.{arith}
-use lib.Dec.{lit≤}
-use lib.ListN.{set}
-use denote.Ref.{now}
+use mathlib.Core.Path.{sym, _∙_}
+use Rattle.sha256.proofs.Padded.{block-inside}
 use borrow.Author.Needs.{needs}
-use Rattle.laws.specs.Tabulate.{Filled}
-use Rattle.laws.proofs.Tabulate.{filled-next, filled-whole}
-use Rattle.sha256.specs.Sha256.{padded, wordAt, blockAt}
 use Rattle.sha256.proofs.padding.block.Statement.{statement}
 use Rattle.sha256.proofs.padding.block.Tie as tie
 
-abbrev at : List ℕ → ℕ → ℕ → ℕ
-at s n t = wordAt (padded s) (64 * n + 4 * t)
+mul-if1 : tie.Need-mul-if1
+mul-if1 c = search needs
 
-abbrev Inv-loop : tie.InvT-loop
-Inv-loop s n words₀ t₀ words t = (t ≤ 16) × Filled 16 (at s n) words t
+add-if1 : tie.Need-add-if1
+add-if1 c = search needs
 
-abbrev μ-loop : tie.MeasureT-loop
-μ-loop s n words₀ t₀ words t = 16 - t
+message-block-requires : tie.Need-message-block-requires
+message-block-requires c κs = search needs
 
-loop-holds : tie.Need-loop-holds Inv-loop μ-loop
-loop-holds c = (lit≤ tt, (refl, refl))
+padded-block-requires : tie.Need-padded-block-requires
+padded-block-requires c κs = search needs
 
-word-requires : tie.Need-word-requires Inv-loop μ-loop
-word-requires c κs = search needs
+returns : tie.Need-returns
+returns c = c .message-block .ensures ∙ sym (block-inside _ _ (c .before .if1 .taken))
 
-mul-words : tie.Need-mul-words Inv-loop μ-loop
-mul-words c = search needs
-
-array-write-words : tie.Need-array-write-words Inv-loop μ-loop
-array-write-words c = search needs
-
-add-t : tie.Need-add-t Inv-loop μ-loop
-add-t c = search needs
-
-loop-less : tie.Need-loop-less Inv-loop μ-loop
-loop-less c = search needs
-
-loop-again : tie.Need-loop-again Inv-loop μ-loop
-loop-again c =
-    let loop = c .before .before .loop in
-    let a = c .before .before .before .before .args in (
-      omega arith,
-      filled-next 16 (at (now (a .s)) (a .n)) (loop .words) (set (loop .words) (loop .t) (c .word .result)) (loop .t) (loop .t + 1)
-          (omega arith) (add-one (loop .t)) (ap (set (loop .words) (loop .t)) (c .word .ensures)) (loop .inv .1),
-    )
-
-returns : tie.Need-returns Inv-loop μ-loop
-unfolding blockAt
-returns c =
-    let loop = c .before .loop in
-    let a = c .before .before .before .args in
-    filled-whole 16 (at (now (a .s)) (a .n)) (loop .words) (loop .t) (omega arith) (loop .inv .1)
+returns-2 : tie.Need-returns-2
+returns-2 c = search needs
 
 pub block-spec : {M : Type 1} → statement M
 block-spec =
     tie.close
-    (tie.spec
-    Inv-loop
-    μ-loop
-    loop-holds
-    word-requires
-    mul-words
-    array-write-words
-    add-t
-    loop-less
-    loop-again
-    returns)
+    (tie.spec mul-if1 add-if1 message-block-requires padded-block-requires returns returns-2)
