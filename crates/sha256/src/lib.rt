@@ -53,16 +53,15 @@ pub fn digest(s: &[u8]) -> Digested
     }
 }
 
-// The hash after the last block.
+// The hash after the last block. The padding takes nine bytes or more: so block n is there if it begins at most eight bytes behind the message.
 fn hash(s: &[u8]) -> [u32; 8]
     requires { ⌜ length (now s) ≤ longest ⌝ }
     ensures { λ r. ⌜ r ≡ hashed (padded (now (s .entry))) (length (padded (now (s .entry))) / 64) ⌝ }
 {
     let constants = rounds::constants();
-    let blocks = padding::blocks(s.len());
     let mut hash = INITIAL;
     let mut n = 0;
-    while n < blocks {
+    while 64 * n <= s.len() + 8 {
         let next = rounds::compress(hash, padding::block(s, n), &constants);
         hash = next;
         n += 1;

@@ -5,14 +5,6 @@ ghost use lib.ListN.{length};
 ghost use Rattle.sha256.specs.Sha256.{longest, padded, wordAt, blockAt};
 ghost use Rattle.sha256.specs.Steps.{blockCount, joinedBytes};
 
-// How many blocks a message of `size` bytes takes.
-pub fn blocks(size: usize) -> usize
-    requires { ⌜ size ≤ longest ⌝ }
-    ensures { λ r. ⌜ r ≡ blockCount size ⌝ }
-{
-    (size + 8) / 64 + 1
-}
-
 // The words of block n.
 pub fn block(s: &[u8], n: usize) -> [u32; 16]
     requires { ⌜ (length (now s) ≤ longest) × (n < blockCount (length (now s))) ⌝ }
@@ -71,7 +63,7 @@ fn padded_block(s: &[u8], n: usize) -> [u32; 16]
     ]
 }
 
-// Word t of block n. The length in bits takes no more than the last word.
+// Word t of block n. The length in bits takes no more than the last word of the last block, in which the message leaves room for eight bytes.
 fn padded_word(s: &[u8], n: usize, t: usize) -> u32
     requires { ⌜ (length (now s) ≤ longest) × (n < blockCount (length (now s))) × (t < 16) ⌝ }
     ensures { λ r. ⌜ r ≡ wordAt (padded (now (s .entry))) (64 * n + 4 * t) ⌝ }
@@ -83,7 +75,10 @@ fn padded_word(s: &[u8], n: usize, t: usize) -> u32
     if i <= s.len() {
         return edge_word(s, i);
     }
-    if i + 4 == 64 * blocks(s.len()) {
+    if t < 15 {
+        return 0;
+    }
+    if s.len() < 64 * n + 56 {
         return (8 * s.len()) as u32;
     }
     0

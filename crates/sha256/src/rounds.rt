@@ -155,9 +155,9 @@ fn two_rounds(words: Words, constants: &[u32; 64], t: usize) -> Words
 {
     let s = words.working;
     let w = words.window;
+    let window = moved_on(w);
     let half = round(s, constants[t], w[0]);
     let working = round(half, constants[t + 1], w[1]);
-    let window = moved_on(w);
     Words { working, window }
 }
 

@@ -9,24 +9,28 @@ use denote.Ref.{now}
 use borrow.Author.Needs.{needs}
 use Rattle.sha256.proofs.Padded.{padded-length}
 use Rattle.sha256.specs.Sha256.{padded, hashed}
+use Rattle.sha256.specs.Steps.{blockCount}
 use Rattle.sha256.proofs.hash.Statement.{statement}
 use Rattle.sha256.proofs.hash.Tie as tie
 
 abbrev Inv-loop : tie.InvT-loop
-Inv-loop s constants blocks hash₀ n₀ hash n = (n ≤ blocks) × (hash ≡ hashed (padded s) n)
+Inv-loop s constants hash₀ n₀ hash n = (n ≤ blockCount (length s)) × (hash ≡ hashed (padded s) n)
 
 abbrev μ-loop : tie.MeasureT-loop
-μ-loop s constants blocks hash₀ n₀ hash n = blocks - n
+μ-loop s constants hash₀ n₀ hash n = blockCount (length s) - n
 
 constants-requires : tie.Need-constants-requires Inv-loop μ-loop
 constants-requires c κs = search needs
 
-blocks-requires : tie.Need-blocks-requires Inv-loop μ-loop
-blocks-requires c κs = search needs
-
 loop-holds : tie.Need-loop-holds Inv-loop μ-loop
 unfolding hashed
 loop-holds c = (omega arith, refl)
+
+mul-loop : tie.Need-mul-loop Inv-loop μ-loop
+mul-loop c = search needs
+
+add-loop : tie.Need-add-loop Inv-loop μ-loop
+add-loop c = search needs
 
 block-requires : tie.Need-block-requires Inv-loop μ-loop
 block-requires c κs = search needs
@@ -49,8 +53,8 @@ loop-again c =
 returns : tie.Need-returns Inv-loop μ-loop
 returns c =
     let loop = c .before .loop in
-    let s = now (c .before .before .before .before .before .args .s) in
-    let all : loop .n ≡ length (padded s) / 64 = omega (arith, padded-length s, c .before .before .blocks2 .ensures) in
+    let s = now (c .before .before .before .before .args .s) in
+    let all : loop .n ≡ length (padded s) / 64 = omega (arith, padded-length s) in
     loop .inv .1 ∙ ap (hashed (padded s)) all
 
 pub hash-spec : {M : Type 1} → statement M
@@ -60,8 +64,9 @@ hash-spec =
     Inv-loop
     μ-loop
     constants-requires
-    blocks-requires
     loop-holds
+    mul-loop
+    add-loop
     block-requires
     compress-requires
     add-n

@@ -33,14 +33,17 @@ edge-word-requires c κs = search needs
 returns-2 : tie.Need-returns-2
 returns-2 c = search needs
 
-add-if3 : tie.Need-add-if3
-add-if3 c = search needs
+returns-3 : tie.Need-returns-3
+returns-3 c =
+    let start = c .before .before .before .before in
+    let a = start .args in
+    word-zero (now (a .s)) (64 * a .n + 4 * a .t) (start .pre .0) (omega arith) (omega arith)
 
-blocks-requires : tie.Need-blocks-requires
-blocks-requires c κs = search needs
+mul-if4 : tie.Need-mul-if4
+mul-if4 c = search needs
 
-mul-if3 : tie.Need-mul-if3
-mul-if3 c = search needs
+add-if4 : tie.Need-add-if4
+add-if4 c = search needs
 
 mul-result : tie.Need-mul-result
 mul-result c = search needs
@@ -48,14 +51,14 @@ mul-result c = search needs
 cast-result : tie.Need-cast-result
 cast-result c = search needs
 
-returns-3 : tie.Need-returns-3
-returns-3 c =
+returns-4 : tie.Need-returns-4
+returns-4 c =
     let start = c .before .before .before .before .before in
     let a = start .args in
     word-last (now (a .s)) (64 * a .n + 4 * a .t) (start .pre .0) (omega arith) (omega arith)
 
-returns-4 : tie.Need-returns-4
-returns-4 c =
+returns-5 : tie.Need-returns-5
+returns-5 c =
     let start = c .before .before .before .before .before in
     let a = start .args in
     word-zero (now (a .s)) (64 * a .n + 4 * a .t) (start .pre .0) (omega arith) (omega arith)
@@ -72,10 +75,10 @@ padded-word-spec =
     returns
     edge-word-requires
     returns-2
-    add-if3
-    blocks-requires
-    mul-if3
+    returns-3
+    mul-if4
+    add-if4
     mul-result
     cast-result
-    returns-3
-    returns-4)
+    returns-4
+    returns-5)
