@@ -1,11 +1,11 @@
-//! The genesis table (01, "Genesis"), and what every call looks at first: the table and the clock.
+//! The genesis table (01, "Genesis"; its least n and its depth: 02, e), and what every call looks at first: the table and the clock.
 use super::order::{Releases, Slot, SLOTS};
 use super::{lent, number, refusal, Refusal};
 
 /// "At most 1,315 bytes."
 pub const LONGEST: usize = 1_315;
 
-/// The genesis table. One that was read has n from 1 to 31, t at most 6 and n keys.
+/// The genesis table. One that was read has n from 1 to 31, t at most 10 and n keys.
 #[derive(Debug, Clone, PartialEq, Eq)]
 pub struct Genesis {
     /// How many controllers there are.
@@ -34,7 +34,7 @@ fn take(rest: &mut &[u8]) -> Result<Genesis, Refusal> {
     let n = lent::number(rest)?;
     let t = lent::number(rest)?;
     let u = lent::number(rest)?;
-    if !allowed(n, t, u) {
+    if !enough(n, t) || !(1..=64).contains(&u) {
         return Err(refusal(1));
     }
     let mut releases = [0; 64];
@@ -53,9 +53,9 @@ fn take(rest: &mut &[u8]) -> Result<Genesis, Refusal> {
     })
 }
 
-/// "n is 1 to 31. n must be at least 5t + 1, so t is at most 6. u is 1 to 64."
-fn allowed(n: u32, t: u32, u: u32) -> bool {
-    (1..=31).contains(&n) && u64::from(n) > 5 * u64::from(t) && (1..=64).contains(&u)
+/// "n is 1 to 31", and 02: "Allow every n of at least 3t + 1, so t goes up to 10."
+fn enough(n: u32, t: u32) -> bool {
+    (1..=31).contains(&n) && u64::from(n) > 3 * u64::from(t)
 }
 
 impl Genesis {
@@ -67,12 +67,18 @@ impl Genesis {
         bytes
     }
 
-    /// How many slots a block waits until it is settled: 3t + 1.
+    /// How many slots a block waits until it is settled: "D = 3t(k + 1) + 1, where k is 2t divided by n − 3t, rounded down". 0 for a table that
+    /// cannot have been read.
     pub fn depth(&self) -> u32 {
-        3 * self.t + 1
+        let (n, t) = (self.n, self.t);
+        if !enough(n, t) {
+            return 0;
+        }
+        let k = 2 * t / (n - 3 * t);
+        3 * t * (k + 1) + 1
     }
 
-    /// "A block is settled exactly if its slot + 3t + 1 < now."
+    /// "Settled means slot + D < now."
     pub fn settled(&self, stamp: Slot, now: Slot) -> bool {
         u64::from(stamp.0) + u64::from(self.depth()) < u64::from(now.0)
     }
@@ -126,30 +132,57 @@ mod tests {
         }
     }
 
-    /// 01's worked examples, and "reading 'more than 3t + 1 slots ago' as 'at least'".
+    /// 01's worked examples, 02's depth of 10, and "reading 'more than 3t + 1 slots ago' as 'at least'".
     #[test]
     fn what_is_settled() {
         let six = samples::genesis(6, 1, 5);
         assert!(six.settled(Slot(5), Slot(10)));
         assert!(!six.settled(Slot(6), Slot(10)));
+        let four = samples::genesis(4, 1, 5);
+        assert!(four.settled(Slot(1), Slot(12)));
+        assert!(!four.settled(Slot(1), Slot(11)));
         let one = samples::genesis(1, 0, 1);
         assert!(one.settled(Slot(254), Slot(256)));
         assert!(!one.settled(Slot(255), Slot(256)));
         assert!(!one.settled(Slot(u32::MAX), Slot(256)));
     }
 
+    fn depth(n: u32, t: u32) -> u32 {
+        samples::genesis(n, t, 1).depth()
+    }
+
+    /// "For n of at least 5t + 1 nothing changes; n = 4, t = 1 gives 10; n = 7, t = 2 gives 31."
     #[test]
     fn depths() {
-        let depths: Vec<u32> = (0..=6)
-            .map(|t| samples::genesis(31, t, 1).depth())
-            .collect();
-        assert_eq!(depths, [1, 4, 7, 10, 13, 16, 19]);
+        assert_eq!(depth(4, 1), 10);
+        assert_eq!(depth(7, 2), 31);
+        for n in 1..=31 {
+            for t in 0..=(n - 1) / 5 {
+                assert_eq!(depth(n, t), 3 * t + 1, "n = {n}, t = {t}");
+            }
+        }
+    }
+
+    /// A block stamped 1 settles in slot 256 at the latest, if at all: the depth is then at most 254.
+    #[test]
+    fn stations_where_nothing_settles() {
+        let sizes = (1..=31).flat_map(|n| (0..=(n - 1) / 3).map(move |t| (n, t)));
+        let nothing: Vec<(u32, u32)> = sizes.filter(|(n, t)| depth(*n, *t) >= 255).collect();
+        assert_eq!(nothing, [(22, 7), (25, 8), (28, 9), (29, 9), (31, 10)]);
+    }
+
+    #[test]
+    fn tables_that_were_not_read_have_depth_0() {
+        let sizes = [(0, 0), (32, 0), (3, 1), (30, 10), (31, 11), (31, u32::MAX)];
+        for (n, t) in sizes.into_iter().chain([(1, 1_431_655_765)]) {
+            assert_eq!(depth(n, t), 0, "n = {n}, t = {t}");
+        }
     }
 
     #[test]
     fn every_size_is_read_back() {
         for n in 1..=31 {
-            for t in 0..=(n - 1) / 5 {
+            for t in 0..=(n - 1) / 3 {
                 for u in [1, 64] {
                     let genesis = samples::genesis(n, t, u);
                     assert_eq!(read(&genesis.bytes()), Ok(genesis));
@@ -158,11 +191,21 @@ mod tests {
         }
     }
 
+    /// "1 for n below 3t + 1, not 5t + 1."
+    #[test]
+    fn the_least_n() {
+        for t in 1..=10 {
+            let of = |n| read(&samples::genesis(n, t, 1).bytes()).map(|table| table.n);
+            assert_eq!(of(3 * t), Err(refusal(1)), "t = {t}");
+            assert_eq!(of(3 * t + 1), Ok(3 * t + 1), "t = {t}");
+        }
+    }
+
     #[test]
     fn shortest_and_longest() {
         let shortest = samples::worked_genesis();
         assert_eq!(shortest.bytes().len(), 99);
-        let mut longest = samples::genesis(31, 6, 64);
+        let mut longest = samples::genesis(31, 10, 64);
         longest.releases = [u32::MAX; 64];
         longest.keys = vec![[0xFF; 32]; 31];
         assert_eq!(longest.bytes().len(), LONGEST);

@@ -1,5 +1,5 @@
-//! The rules of 01 once more, in plain Rust. Nothing here is taken from the proved code or its specifications. For tests there are besides its
-//! calls as values (`calls`), and samples and chance to make their arguments of.
+//! The rules of 01, and of 02 as far as they have landed, once more, in plain Rust. Nothing here is taken from the proved code or its specifications.
+//! For tests there are besides its calls as values (`calls`), and samples and chance to make their arguments of.
 pub mod adopt;
 pub mod block;
 pub mod calls;

@@ -43,7 +43,14 @@ impl Chance {
 
     /// A table that is good, with a few releases of every size.
     fn small_table(&mut self) -> Genesis {
-        let (n, t, u) = self.of(&[(1, 0, 1), (6, 1, 5), (11, 2, 64), (31, 6, 9)]);
+        let (n, t, u) = self.of(&[
+            (1, 0, 1),
+            (4, 1, 3),
+            (6, 1, 5),
+            (7, 2, 7),
+            (11, 2, 64),
+            (31, 6, 9),
+        ]);
         let mut table = samples::genesis(n, t, u);
         for display in [0, 1, 63] {
             table.releases[display] = self.number();

@@ -100,10 +100,10 @@ impl Chance {
     }
 
     pub fn table(&mut self) -> Genesis {
-        let t = self.within(0, 6);
+        let t = self.within(0, 10);
         let n = self
             .within(1, 31)
-            .max(5 * t.min(6) + u32::from(!self.once_in(9)));
+            .max(3 * t.min(10) + u32::from(!self.once_in(9)));
         Genesis {
             n,
             t,

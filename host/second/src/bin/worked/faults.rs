@@ -35,7 +35,7 @@ pub fn stamped(stamps: &[u32]) -> Vec<u8> {
 
 /// The tables of `bad_openings`, by the samples' names.
 const TABLES: [&str; 4] = [
-    "n = 5, t = 1, u = 1",
+    "n = 3, t = 1, u = 1",
     "n = 257, t = 0, u = 1",
     "cut to 0 bytes",
     "a byte after",

@@ -145,7 +145,7 @@ fn longest() -> Case {
     case("a block in every slot, 64,129 bytes", Held(given)).by_hand(by_hand)
 }
 
-/// "A block is settled exactly if its slot + 3t + 1 < now."
+/// "A block is settled exactly if its slot + 3t + 1 < now", and 02: "Settled means slot + D < now."
 fn settled() -> Vec<Case> {
     let mut cases = Vec::new();
     // stamps 1, 3, 4, 6, 9 and depth 4
@@ -170,7 +170,26 @@ fn settled() -> Vec<Case> {
         let case = held(format!("01's: stamp {stamp}, now 10"), 10, chain);
         cases.push(case.by_hand(format!("{whole} settled {settled}")));
     }
+    cases.extend([(11, false), (12, true)].map(|(now, settles)| of_four(now, settles)));
     cases
+}
+
+/// A block stamped 1 at a station with four controllers, whose depth is 10.
+fn of_four(now: u32, settles: bool) -> Case {
+    let genesis = samples::genesis(4, 1, 5).bytes();
+    let chain = samples::chain(&genesis, &[samples::block(1, &[order(2, 40, 41)])]);
+    let none = standing_of(0, 0, 0, &genesis, " 2:40");
+    let whole = standing_of(1, BLOCK, 1, &chain, " 2:41");
+    let settled = if settles { &whole } else { &none };
+    let by_hand = format!("{whole} settled {settled}");
+    let given = Arguments {
+        genesis,
+        now: Slot(now),
+        held_length: chain.len(),
+        held: chain,
+        ..Arguments::good()
+    };
+    case(format!("n = 4, t = 1: stamp 1, now {now}"), Held(given)).by_hand(by_hand)
 }
 
 fn bad(case: Case, place: u32) -> Case {

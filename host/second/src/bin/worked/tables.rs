@@ -125,6 +125,12 @@ fn read() -> Vec<Case> {
             .by_hand("n 6 t 1 u 5 keys at 67 releases 2:40"),
         table("n = 6, t = 0, u = 64", samples::genesis(6, 0, 64)),
         table("n = 11, t = 2", samples::genesis(11, 2, 1)),
+        table("n = 4, t = 1", samples::genesis(4, 1, 5))
+            .by_hand("n 4 t 1 u 5 keys at 67 releases 2:40"),
+        table("n = 7, t = 2", samples::genesis(7, 2, 5))
+            .by_hand("n 7 t 2 u 5 keys at 67 releases 2:40"),
+        table("n = 31, t = 10", samples::genesis(31, 10, 64))
+            .by_hand("n 31 t 10 u 64 keys at 67 releases 2:40"),
         table("n = 31, t = 6", samples::genesis(31, 6, 64)),
         table("n = 31, t = 6, 1,315 bytes", longest()),
         table("releases of every length, equal keys", equal_keys()),
@@ -135,17 +141,18 @@ fn refused(name: impl Into<String>, bytes: Vec<u8>) -> Case {
     case(name, Table(bytes)).by_hand("refused 1 0")
 }
 
-const OUT_OF_RANGE: [(u32, u32, u32); 15] = [
+const OUT_OF_RANGE: [(u32, u32, u32); 16] = [
     (0, 0, 1),
     (32, 0, 1),
     (257, 0, 1),
     (u32::MAX, 0, 1),
     (1, 1, 1),
-    (5, 1, 1),
-    (30, 6, 1),
-    (31, 7, 1),
-    (1, 858_993_459, 1),
-    (31, 858_993_460, 1),
+    (3, 1, 1),
+    (6, 2, 1),
+    (30, 10, 1),
+    (31, 11, 1),
+    (1, 1_431_655_765, 1),
+    (31, 1_431_655_766, 1),
     (31, u32::MAX, 1),
     (6, 1, 0),
     (6, 1, 65),
@@ -209,7 +216,7 @@ fn badly_written() -> Vec<Case> {
 }
 
 /// n, the slot, and the controller by hand.
-const TURNS: [(u32, u32, u32); 12] = [
+const TURNS: [(u32, u32, u32); 14] = [
     (6, 7, 1),
     (6, 256, 4),
     (6, 1, 1),
@@ -222,6 +229,8 @@ const TURNS: [(u32, u32, u32); 12] = [
     (31, 32, 1),
     (31, 256, 8),
     (2, 255, 1),
+    (4, 5, 1),
+    (4, 256, 4),
 ];
 
 fn turns() -> Vec<Case> {
@@ -237,12 +246,34 @@ fn turns() -> Vec<Case> {
     cases
 }
 
+/// n, t, and the depth by hand.
+const DEPTHS: [(u32, u32, u32); 18] = [
+    (31, 0, 1),
+    (31, 1, 4),
+    (31, 2, 7),
+    (31, 3, 10),
+    (31, 4, 13),
+    (31, 5, 16),
+    (31, 6, 19),
+    (4, 1, 10),
+    (5, 1, 7),
+    (6, 1, 4),
+    (7, 2, 31),
+    (10, 2, 13),
+    (11, 2, 7),
+    (30, 6, 37),
+    (31, 7, 43),
+    (22, 7, 316),
+    (30, 9, 190),
+    (31, 10, 631),
+];
+
 fn depths() -> Vec<Case> {
-    let mut cases: Vec<Case> = [(0, 1), (1, 4), (2, 7), (3, 10), (4, 13), (5, 16), (6, 19)]
+    let mut cases: Vec<Case> = DEPTHS
         .into_iter()
-        .map(|(t, depth)| {
-            let table = samples::genesis(31, t, 1).bytes();
-            case(format!("t = {t}"), Depth(table)).by_hand(format!("depth {depth}"))
+        .map(|(n, t, depth)| {
+            let table = samples::genesis(n, t, 1).bytes();
+            case(format!("n = {n}, t = {t}"), Depth(table)).by_hand(format!("depth {depth}"))
         })
         .collect();
     cases.push(case("a table of no bytes", Depth(vec![])).by_hand("refused 1 0"));
@@ -284,7 +315,10 @@ pub fn sections() -> Vec<Section> {
         section("Genesis: cut, or longer than its keys", cut_or_long()),
         section("Genesis: numbers badly written", badly_written()),
         section("Turns (01, \"Worked by hand\")", turns()),
-        section("Depth: 3t + 1", depths()),
+        section(
+            "Depth: 3t(k + 1) + 1, where k is 2t divided by n - 3t, rounded down",
+            depths(),
+        ),
         section("Keys: 1, then 12", keys()),
     ]
 }
