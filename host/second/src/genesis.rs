@@ -163,6 +163,23 @@ mod tests {
         }
     }
 
+    /// The most faulty turns that so many slots in a row can have: t in each round, and in what is left of one.
+    fn most_faulty_turns(n: u32, t: u32, slots: u32) -> u32 {
+        slots / n * t + (slots % n).min(t)
+    }
+
+    /// What the depth is for: it is the least number of slots from which on fewer than a third are faulty turns.
+    #[test]
+    fn the_least_depth_of_which_fewer_than_a_third_are_faulty() {
+        for n in 1..=31 {
+            for t in 0..=(n - 1) / 3 {
+                let fewer = |slots: &u32| 3 * most_faulty_turns(n, t, *slots) < *slots;
+                let last = (1..2_000).rev().find(|slots| !fewer(slots)).unwrap_or(0);
+                assert_eq!(depth(n, t), last + 1, "n = {n}, t = {t}");
+            }
+        }
+    }
+
     /// A block stamped 1 settles in slot 256 at the latest, if at all: the depth is then at most 254.
     #[test]
     fn stations_where_nothing_settles() {
