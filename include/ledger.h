@@ -178,7 +178,7 @@ typedef struct {
     uint8_t bytes[LEDGER_SIGNATURE_BYTES];
 } ledger_signature;
 
-/* A genesis table: n controllers, of whom t may be faulty, and u slots that an order stays pooled. */
+/* A genesis table: n controllers, of whom t may be faulty (n is at least 3t + 1), and u slots that an order stays pooled. */
 typedef struct {
     uint32_t n;
     uint32_t t;
@@ -293,7 +293,8 @@ ledger_key_answer ledger_find_key(const uint8_t *bytes, size_t bytes_length, uin
 /* Whose turn a slot is: a controller, or 0 where the table has none. No refusal: any slot has a turn, and slot 0 is answered as slot 1 is. */
 uint32_t ledger_turn(ledger_genesis table, ledger_slot slot);
 
-/* How many slots a block must lie back to be settled: it is if its slot + depth < now. No refusal. */
+/* How many slots a block must lie back to be settled: it is if its slot + depth < now. 0 for a table that was not read, whose n is not 1 to 31 or is
+   below 3t + 1; where it is 255 or more, nothing settles in a run. No refusal. */
 uint64_t ledger_depth(ledger_genesis table);
 
 /* Reads the block at a place: 3, 4, 5 in byte order. */

@@ -67,6 +67,7 @@ static int tables(void) {
     EXPECT(ledger_turn(read.table, (ledger_slot){256}) == 4);
     EXPECT(ledger_turn(read.table, (ledger_slot){0}) == 1);
     EXPECT(ledger_depth(read.table) == 4);
+    EXPECT(ledger_depth(ledger_read_genesis(genesis, length - 1).table) == 0);
     return 0;
 }
 

@@ -80,11 +80,23 @@ static int the_longest_genesis(void) {
     for (int i = 0; i < LEDGER_DISPLAYS; i++)
         releases[i] = UINT32_MAX;
     memset(most, 0x4B, sizeof most);
-    ledger_made_genesis made = ledger_write_genesis(31, 6, 64, releases, most[0], sizeof most, out);
+    ledger_made_genesis made = ledger_write_genesis(31, 10, 64, releases, most[0], sizeof most, out);
     EXPECT(made.broken == NULL && made.length == 3 + 64 * 5 + 31 * 32);
     ledger_genesis_answer read = ledger_read_genesis(out, made.length);
-    EXPECT(read.refusal == 0 && read.table.n == 31 && read.table.t == 6 && read.table.u == 64);
+    EXPECT(read.refusal == 0 && read.table.n == 31 && read.table.t == 10 && read.table.u == 64);
     EXPECT(read.table.releases[0] == UINT32_MAX && read.table.releases[63] == UINT32_MAX && out[read.table.keys_at] == 0x4B);
+    return 0;
+}
+
+/* Four controllers, of whom one may be faulty: a block waits 10 slots. */
+static int a_branch_station(void) {
+    uint8_t out[LEDGER_GENESIS_BYTES];
+    const uint8_t four_keys[4 * LEDGER_KEY_BYTES] = {0};
+    const uint32_t releases[LEDGER_DISPLAYS] = {0};
+    ledger_made_genesis made = ledger_write_genesis(4, 1, 1, releases, four_keys, sizeof four_keys, out);
+    EXPECT(made.broken == NULL && made.length == 3 + 64 + 4 * 32);
+    ledger_genesis_answer read = ledger_read_genesis(out, made.length);
+    EXPECT(read.refusal == 0 && read.table.n == 4 && read.table.t == 1 && ledger_depth(read.table) == 10);
     return 0;
 }
 
@@ -100,9 +112,10 @@ static int no_genesis(void) {
     } cases[] = {
         {0, 0, 1, 0, "n is not 1 to 31"},
         {32, 0, 1, 32 * 32, "n is not 1 to 31"},
-        {5, 1, 1, 5 * 32, "n is below 5t + 1"},
-        {31, 7, 1, 31 * 32, "n is below 5t + 1"},
-        {31, 858993459, 1, 31 * 32, "n is below 5t + 1"}, /* 5t + 1 is 0 in 32 bits */
+        {3, 1, 1, 3 * 32, "n is below 3t + 1"},
+        {30, 10, 1, 30 * 32, "n is below 3t + 1"},
+        {31, 11, 1, 31 * 32, "n is below 3t + 1"},
+        {31, 1431655765, 1, 31 * 32, "n is below 3t + 1"}, /* 3t + 1 is 0 in 32 bits */
         {6, 1, 0, 6 * 32, "u is not 1 to 64"},
         {6, 1, 65, 6 * 32, "u is not 1 to 64"},
         {6, 1, 1, 6 * 32 - 1, "the keys are not 32 bytes for each controller"},
@@ -325,8 +338,8 @@ static int names(void) {
 
 int main(void) {
     make_station();
-    const int lines[] = {a_genesis(),       the_longest_genesis(), no_genesis(),        broken_rules(),    good_verdicts(),
-                         nothing_in_vain(), a_bad_signature(),     adoptions(),         the_longest_chain(), part_of_a_block(),
-                         flipped_bits(),    stored_chains(),       an_issued_block(),   names()};
+    const int lines[] = {a_genesis(),       the_longest_genesis(), a_branch_station(), no_genesis(),        broken_rules(),
+                         good_verdicts(),   nothing_in_vain(),     a_bad_signature(),  adoptions(),         the_longest_chain(),
+                         part_of_a_block(), flipped_bits(),        stored_chains(),    an_issued_block(),   names()};
     return exit_status("every_helper.c", lines, sizeof lines / sizeof *lines);
 }

@@ -7,8 +7,8 @@
 static const char *broken_limit(uint32_t n, uint32_t t, uint32_t u) {
     if (n < 1 || n > LEDGER_CONTROLLERS)
         return "n is not 1 to 31";
-    if (n < 5 * (uint64_t)t + 1)
-        return "n is below 5t + 1";
+    if (n < 3 * (uint64_t)t + 1)
+        return "n is below 3t + 1";
     if (u < 1 || u > LEDGER_POOL_SLOTS)
         return "u is not 1 to 64";
     return NULL;
