@@ -19,7 +19,8 @@ impl Genesis {
         raw::ledger_turn(*self, slot)
     }
 
-    /// How many slots a block must lie back to be settled: it is if its slot + depth < now.
+    /// How many slots a block must lie back to be settled: it is if its slot + depth < now. 0 for a table that was not read, whose n is not 1 to 31
+    /// or is below 3t + 1; where it is 255 or more, nothing settles in a run.
     pub fn depth(&self) -> u64 {
         raw::ledger_depth(*self)
     }
@@ -64,7 +65,7 @@ pub fn write_genesis<'o>(
 pub enum GenesisFault {
     /// n is not 1 to 31.
     Controllers { n: u32 },
-    /// n is not at least 5t + 1.
+    /// n is not at least 3t + 1.
     Faulty { n: u32, t: u32 },
     /// u is not 1 to 64.
     Pooled { u: u32 },
@@ -107,12 +108,12 @@ pub fn genesis_fault(bytes: &[u8]) -> Result<(), GenesisFault> {
     }
 }
 
-/// n is 1 to 31 and at least 5t + 1, and u is 1 to 64.
+/// n is 1 to 31 and at least 3t + 1, and u is 1 to 64.
 fn head_fault(n: u32, t: u32, u: u32) -> Result<(), GenesisFault> {
     if !(1..=CONTROLLERS as u32).contains(&n) {
         return Err(GenesisFault::Controllers { n });
     }
-    if u64::from(n) < 5 * u64::from(t) + 1 {
+    if u64::from(n) < 3 * u64::from(t) + 1 {
         return Err(GenesisFault::Faulty { n, t });
     }
     if !(1..=64).contains(&u) {
@@ -128,8 +129,8 @@ impl Display for GenesisFault {
                 write!(f, "n = {n}: a station has 1 to {CONTROLLERS} controllers")
             }
             GenesisFault::Faulty { n, t } => {
-                let most = (n - 1) / 5;
-                write!(f, "t = {t}: of {n} controllers at most {most} may be faulty, since n is at least 5t + 1")
+                let most = (n - 1) / 3;
+                write!(f, "t = {t}: of {n} controllers at most {most} may be faulty, since n is at least 3t + 1")
             }
             GenesisFault::Pooled { u } => {
                 write!(f, "u = {u}: an order stays pooled for 1 to 64 slots")
@@ -185,7 +186,7 @@ mod tests {
     #[test]
     fn every_size_is_read_back() {
         for n in 1..=31 {
-            for t in 0..=u32::from(n - 1) / 5 {
+            for t in 0..=u32::from(n - 1) / 3 {
                 let mut out = [0xEE; GENESIS_BYTES];
                 let bytes = write_genesis(t, 64, &releases(), &keys(n), &mut out).unwrap();
                 let table = Genesis::read(bytes).unwrap();
@@ -203,10 +204,10 @@ mod tests {
     fn the_longest_and_a_byte_less_room() {
         let mut out = [0xEE; GENESIS_BYTES];
         let (most, keys) = ([u32::MAX; DISPLAYS], keys(31));
-        let short = write_genesis(6, 64, &most, &keys, &mut out[1..]);
+        let short = write_genesis(10, 64, &most, &keys, &mut out[1..]);
         assert_eq!(short, Err(GenesisFault::ShortBuffer));
         assert_eq!(out, [0xEE; GENESIS_BYTES]);
-        let bytes = write_genesis(6, 64, &most, &keys, &mut out).unwrap();
+        let bytes = write_genesis(10, 64, &most, &keys, &mut out).unwrap();
         assert_eq!(bytes.len(), GENESIS_BYTES);
         assert_eq!(Genesis::read(bytes).map(|table| table.keys_at), Ok(323));
     }
@@ -217,10 +218,10 @@ mod tests {
             (0, 1, 0, "n = 0: a station has 1 to 31 controllers"),
             (0, 1, 32, "n = 32: a station has 1 to 31 controllers"),
             (
-                2,
+                4,
                 1,
-                10,
-                "t = 2: of 10 controllers at most 1 may be faulty, since n is at least 5t + 1",
+                12,
+                "t = 4: of 12 controllers at most 3 may be faulty, since n is at least 3t + 1",
             ),
             (0, 65, 1, "u = 65: an order stays pooled for 1 to 64 slots"),
         ] {
@@ -246,7 +247,7 @@ mod tests {
         );
         assert_eq!(
             words(&[1, 1, 1]),
-            "t = 1: of 1 controllers at most 0 may be faulty, since n is at least 5t + 1"
+            "t = 1: of 1 controllers at most 0 may be faulty, since n is at least 3t + 1"
         );
     }
 }

@@ -1,5 +1,5 @@
 //! A genesis as text, and as bytes.
-use ledger::{Genesis, DISPLAYS, GENESIS_BYTES, KEY_BYTES};
+use ledger::{Genesis, DISPLAYS, GENESIS_BYTES, KEY_BYTES, SLOTS};
 
 use crate::Answer;
 
@@ -122,14 +122,21 @@ pub fn show(bytes: &[u8]) -> Result<String, String> {
         });
         text += &format!("key {controller} {digits}{twice}\n");
     }
-    Ok(text + &format!("# settled: slot + {} < now\n", table.depth()))
+    Ok(text + &settling(table.depth()))
+}
+
+/// Which blocks are settled. Where not even one of slot 1 is in the last slot, nothing ever is.
+fn settling(depth: u64) -> String {
+    let ever = 1 + depth < SLOTS as u64;
+    let never = if ever { "" } else { ", so never in a run" };
+    format!("# settled: slot + {depth} < now{never}\n")
 }
 
 #[cfg(test)]
 mod tests {
     use super::*;
 
-    /// n = 1, t = 0, u = 1, display 0 at release 7, and a key of 32 bytes: the bytes of `docs/STATION.md`, but for the key.
+    /// n = 1, t = 0, u = 1, display 0 at release 7, and a key of 32 bytes: the bytes of `docs/FORMATS.md`, but for the key.
     const TEXT: &str = "\
         # a station of one\n\
         n 1\nt 0\nu 1\nrelease 0 7  # the first layout\n\
@@ -153,6 +160,18 @@ mod tests {
             key 1 00112233445566778899aabbccddeeff00112233445566778899aabbccddeeff\n\
             # settled: slot + 1 < now\n";
         assert_eq!(show(&bytes()), Ok(text.into()));
+    }
+
+    /// 28 controllers of whom 8 may be faulty wait 121 slots; with 9 it is 514, and the last slot is 256.
+    #[test]
+    fn nothing_settles() {
+        let last = |t: u32| {
+            let (keys, mut out) = ([[7; KEY_BYTES]; 28], [0; GENESIS_BYTES]);
+            let bytes = ledger::write_genesis(t, 1, &[0; DISPLAYS], &keys, &mut out).unwrap();
+            show(bytes).unwrap().lines().last().unwrap().to_string()
+        };
+        assert_eq!(last(8), "# settled: slot + 121 < now");
+        assert_eq!(last(9), "# settled: slot + 514 < now, so never in a run");
     }
 
     /// What is shown makes the same bytes again, two equal keys too.
