@@ -4,7 +4,7 @@ use std::collections::BTreeSet;
 use second::chance::Chance;
 use second::order::Slot;
 use second::pool::Entry;
-use second::samples::{self, Case, BLOCK};
+use second::samples::{self, Case, BLOCK, STAMPS};
 use trials::both::{self, CALLS};
 use trials::rounds::{all_are_made, rounds};
 
@@ -77,6 +77,30 @@ fn every_clock_length_and_count() {
         let valid = case.pool.entries[1];
         case.pool.entries[2..].fill(valid);
         alike(&case);
+    }
+}
+
+/// The sample chain held at a station of every size, in the last slot and where one of its blocks begins to be settled: in the slot before and in
+/// that slot.
+#[test]
+fn every_size_of_a_station() {
+    let sizes = (1..=31).flat_map(|n| (0..=(n - 1) / 3).map(move |t| (n, t)));
+    for (n, t) in sizes {
+        let table = samples::genesis(n, t, 5);
+        let genesis = table.bytes();
+        let held = samples::good_chain(&genesis);
+        let ends = STAMPS.map(|stamp| stamp + table.depth());
+        for now in ends.into_iter().flat_map(|end| [end, end + 1]).chain([256]) {
+            let case = Case {
+                genesis: genesis.clone(),
+                now: Slot(now.min(256)),
+                held: held.clone(),
+                held_length: held.len(),
+                delivered: held.clone(),
+                ..good()
+            };
+            alike(&case);
+        }
     }
 }
 

@@ -54,6 +54,18 @@ fn one_of_six() {
     were_disturbed(&runs(6, 1, 256, 5));
 }
 
+/// 02's station with four controllers: the depth is 10.
+#[test]
+fn one_of_four() {
+    were_disturbed(&runs(4, 1, 256, 5));
+}
+
+/// The depth is 31.
+#[test]
+fn two_of_seven() {
+    were_disturbed(&runs(7, 2, 256, 3));
+}
+
 #[test]
 fn two_of_eleven() {
     were_disturbed(&runs(11, 2, 256, 3));
@@ -103,12 +115,13 @@ fn report_at<const DEPTH: u32>(
     })
 }
 
-/// Depths below 3t + 1. Where nobody is faulty the chains do not differ, whatever the depth.
+/// Depths far below what the count asks for. From 3t + 1 on no run is known in which settled lists differ, so a depth of one slot less than D is not
+/// among them. Where nobody is faulty the chains do not differ, whatever the depth.
 #[test]
 fn settling_too_soon_would_be_seen() {
     for report in [report_at::<0> as calls::Report, report_at::<1>] {
         let calls = Calls { report, ..SECOND };
-        for (n, t) in [(6, 1), (11, 2)] {
+        for (n, t) in [(4, 1), (6, 1), (7, 2), (11, 2)] {
             let broken = broken(n, t, &calls);
             let differ = |broken: &Broken| matches!(broken, Broken::Differ(..));
             assert!(broken.iter().any(differ), "{broken:?}");

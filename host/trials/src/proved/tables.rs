@@ -61,7 +61,7 @@ mod tests {
     #[test]
     fn tables_are_read_alike() {
         for n in 1..=31 {
-            for t in 0..=(n - 1) / 5 {
+            for t in 0..=(n - 1) / 3 {
                 reads_alike(&samples::genesis(n, t, n + 1).bytes());
             }
         }
@@ -81,6 +81,21 @@ mod tests {
         assert_eq!(turn(&table(0, 3), Slot(9)), 0);
         assert_eq!(turn(&table(6, 3), Slot(0)), 1);
         assert_eq!(turn(&table(5, 3), Slot(9)), 4);
-        assert_eq!(table(1, u32::MAX).depth(), 3 * u64::from(u32::MAX) + 1);
+        assert_eq!(table(0, 0).depth(), 0);
+        assert_eq!(table(1, u32::MAX).depth(), 0);
+    }
+
+    /// Every size, read or not, and those where 3t + 1 or 6t + 1 is small in 32 bits.
+    #[test]
+    fn depths_are_alike() {
+        let wrapping = [1_431_655_765, 1_431_655_766, 715_827_883, u32::MAX];
+        for n in (0..=33).chain([u32::MAX]) {
+            for t in (0..=12).chain(wrapping) {
+                let other = samples::genesis(n.min(33), t, 1);
+                let other = second::genesis::Genesis { n, ..other };
+                let depth = u64::from(other.depth());
+                assert_eq!(table(n, t).depth(), depth, "n = {n}, t = {t}");
+            }
+        }
     }
 }
