@@ -6,3 +6,5 @@ pub mod Lists
 pub mod Lengths
 pub mod Theorems
 pub mod Answers
+pub mod Calls
+pub mod Typing

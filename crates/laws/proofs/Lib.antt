@@ -9,6 +9,7 @@ pub mod Answers
 pub mod Sets
 pub mod Repeated
 pub mod Formats
+pub mod Calls
 pub mod Taken
 pub mod Run
 pub mod Fold

@@ -40,7 +40,7 @@ module _ (out : List ℕ) (at : ℕ) (bytes : List ℕ) (next : ℕ) (e : placed
   room : at + length bytes ≤ length out
   room = was-room out at bytes next e .0
 
-  laid : placing out at bytes ≡ (take at out ++ bytes) ++ drop (at + length bytes) out
+  pub laid : placing out at bytes ≡ (take at out ++ bytes) ++ drop (at + length bytes) out
   laid = rw (le-leb (at + length bytes) (length out) room) (sets-eq bytes out at room)
 
   pub placed-size : length (placing out at bytes) ≡ length out

@@ -2,3 +2,4 @@ pub mod Answers
 pub mod Groups
 pub mod Written
 pub mod RoundTrip
+pub mod Calls
