@@ -6,7 +6,7 @@ use lib.Dec.{leb}
 use lib.ListN.{length, take, drop}
 use Rattle.laws.specs.Told.{Told, Found, found, unless}
 
--- the bytes from a place to the one before another
+-- so many bytes from a place on
 abbrev pub part : List ℕ → ℕ → ℕ → List ℕ
 part s at size = take size (drop at s)
 
