@@ -16,11 +16,11 @@ pub enum Writing {
     Short,
 }
 
-// Whether `size` bytes fit a buffer of a given length at a place.
-pub fn fits(length: usize, at: usize, size: usize) -> bool
-    ensures { λ r. ⌜ r ≡ leb (at + size) length ⌝ }
+// Whether `size` bytes fit a buffer of `room` bytes at a place.
+pub fn fits(room: usize, at: usize, size: usize) -> bool
+    ensures { λ r. ⌜ r ≡ leb (at + size) room ⌝ }
 {
-    size <= length && at <= length - size
+    size <= room && at <= room - size
 }
 
 pub fn put(out: &mut [u8], at: usize, bytes: &[u8]) -> Writing

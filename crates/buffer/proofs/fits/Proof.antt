@@ -9,17 +9,17 @@ use Rattle.laws.proofs.Cases.{lt-cases}
 use Rattle.buffer.proofs.fits.Statement.{statement}
 use Rattle.buffer.proofs.fits.Tie as tie
 
-moved : (length at size : ℕ) → size ≤ length → leb at (length - size) ≡ leb (at + size) length
-moved length at size h =
-    lt-cases length (at + size) (λ over. lt-leb at (length - size) (omega arith) ∙ sym (lt-leb (at + size) length over))
-    (λ within. le-leb at (length - size) (omega arith) ∙ sym (le-leb (at + size) length within))
+moved : (room at size : ℕ) → size ≤ room → leb at (room - size) ≡ leb (at + size) room
+moved room at size h =
+    lt-cases room (at + size) (λ over. lt-leb at (room - size) (omega arith) ∙ sym (lt-leb (at + size) room over))
+    (λ within. le-leb at (room - size) (omega arith) ∙ sym (le-leb (at + size) room within))
 
 returns : tie.Need-returns
 returns c = moved _ _ _ (c .if1 .taken)
 
 returns-2 : tie.Need-returns-2
 returns-2 c =
-    let over : c .before .args .length < c .before .args .at + c .before .args .size = omega arith in
+    let over : c .before .args .room < c .before .args .at + c .before .args .size = omega arith in
     lt-leb _ _ (c .if1 .left) ∙ sym (lt-leb _ _ over)
 
 pub fits-spec : {M : Type 1} → statement M
