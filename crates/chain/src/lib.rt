@@ -134,8 +134,9 @@ pub fn held(opened: Opened, buffer: &[u8], length: usize) -> Passed
         return refused(opened, BAD_HELD, BlockCount(0));
     }
     let chain = &buffer[..length];
-    // no verdict is looked at on this way
-    bad(pass(chain, chain, Way::Held, opened))
+    // what is held needs no verdict, and none is looked at on this way
+    let verdicts = &buffer[..0];
+    bad(pass(chain, verdicts, Way::Held, opened))
 }
 
 // Whatever is wrong with a held chain is 17.

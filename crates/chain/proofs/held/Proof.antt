@@ -32,17 +32,26 @@ returns-2 c =
 slice-aggregate-chain : tie.Need-slice-aggregate-chain
 slice-aggregate-chain c = let a = c .before .before .before .before .args in search (needs, length-take-le (a .length) (now (a .buffer)) (c .before .before .if1 .left))
 
+slice-aggregate-verdicts : tie.Need-slice-aggregate-verdicts
+slice-aggregate-verdicts c = search needs
+
 pass-requires : tie.Need-pass-requires
-pass-requires c κs = let a = c .before .before .before .before .args in omega (arith, length-take-le (a .length) (now (a .buffer)) (c .before .before .if1 .left), c .before .if2 .left)
+pass-requires c κs =
+    let inside = c .before in
+    let a = inside .before .before .before .before .args in
+    omega (arith, length-take-le (a .length) (now (a .buffer)) (inside .before .before .if1 .left), inside .before .if2 .left)
 
 bad-requires : tie.Need-bad-requires
 bad-requires c κs = search needs
 
 returns-3 : tie.Need-returns-3
 returns-3 c =
-    let a = c .before .before .before .before .before .before .args in
     let passed = c .before .pass in
-    let told = c .bad .ensures .0 ∙ ap bad (passed .ensures .0) ∙ sym (held-passed (a .opened) (now (a .buffer)) (a .length) (c .before .before .before .before .if1 .left) (c .before .before .before .if2 .left)) in
+    let inside = c .before .before .before in
+    let a = inside .before .before .before .before .args in
+    let told =
+    c .bad .ensures .0 ∙ ap bad (passed .ensures .0)
+    ∙ sym (held-passed (a .opened) (now (a .buffer)) (a .length) (inside .before .before .if1 .left) (inside .before .if2 .left)) in
     (told, c .bad .ensures .1 ∙ passed .ensures .1 ∙ bad-leaves (a .opened) (toldPassed (passed .result)) ∙ ap (summaryOr (a .opened)) (sym (c .bad .ensures .0) ∙ told))
 
 pub held-spec : {M : Type 1} → statement M
@@ -54,6 +63,7 @@ held-spec =
     refused-requires-2
     returns-2
     slice-aggregate-chain
+    slice-aggregate-verdicts
     pass-requires
     bad-requires
     returns-3)
