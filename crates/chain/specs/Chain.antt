@@ -22,6 +22,10 @@ use Rattle.chain.specs.declared.Summary.{Summary}
 abbrev pub longest : ℕ
 longest = 64256
 
+-- a count of blocks has 32 bits: below this one more block can be counted. A chain of 64,256 bytes never comes near it
+abbrev pub largestCount : ℕ
+largestCount = 4294967295
+
 -- "The link is SHA-256 of the whole block before it, or of the genesis bytes for the first."
 abbrev pub linkOf : List ℕ → List ℕ
 linkOf bytes = bytesOf bytes

@@ -39,7 +39,7 @@ pub struct Judging {
 }
 
 pub fn judge(chain: &[u8], verdicts: &[u8], way: Way, clock: Slot, before: Standing) -> Judging
-    requires { ⌜ before .count .0 < 4294967295 ⌝ }
+    requires { ⌜ before .count .0 < spec.largestCount ⌝ }
     ensures { λ r. ⌜ toldJudging r ≡ spec.judged (wayOf way (now (verdicts .entry))) (clock .0) (now (chain .entry)) before ⌝ }
 {
     let body = block::read_body(chain, before.length);
@@ -104,7 +104,7 @@ fn good_verdict(verdicts: &[u8], at: usize) -> bool
 
 // Judges the link and the orders of a block that ends at `next`.
 fn join(chain: &[u8], before: Standing, orders: Orders, stamp: Slot, next: usize) -> Judging
-    requires { ⌜ (before .count .0 < 4294967295) × (orders .count ≤ 8) × (bodyAt (now chain) (before .length) ≡ found (unlisted orders, stamp .0) next) ⌝ }
+    requires { ⌜ (before .count .0 < spec.largestCount) × (orders .count ≤ 8) × (bodyAt (now chain) (before .length) ≡ found (unlisted orders, stamp .0) next) ⌝ }
     ensures { λ r. ⌜ toldJudging r ≡ then (blockAt (now (chain .entry)) (before .length)) (spec.joining (now (chain .entry)) before) ⌝ }
 {
     let at = before.length;
