@@ -4,7 +4,7 @@
 use mathlib.Core.Path.{_≡_, refl, ap}
 use mathlib.Core.Bool.{true}
 use mathlib.Core.List.{[], _∷_, _++_}
-use lib.ListN.{getD}
+use lib.ListN.{length, getD}
 use Rattle.laws.specs.Told.{gives}
 use Rattle.laws.specs.Every.{every, within}
 use Rattle.laws.specs.Run.{run}
@@ -15,17 +15,17 @@ use Rattle.genesis.specs.Genesis.{genesisOf, keyAt}
 use Rattle.block.specs.Block.{blockAt, frontBytes, blockBytes}
 use Rattle.block.specs.Blocks.{blockIn, frontFits, slotText}
 use Rattle.walk.specs.Walk.{stepAt}
-use Rattle.chain.specs.Chain.{checked, judged, deliveredChain, heldChain}
+use Rattle.chain.specs.Chain.{checked, judged, deliveredChain, heldChain, holding}
 use Rattle.adopt.specs.Adopt.{accepted, choice, adopted, adopting}
 use Rattle.pool.specs.Pool.{offered, taking}
 use Rattle.pool.specs.Answers.{poolOr}
 use Rattle.issue.specs.Issue.{front, draftBytes, textBytes, appendBytes, writing, written as issued}
 use Rattle.report.specs.Report.{reported}
 use Rattle.wrong.specs.Versions.{Rejected, TouchesNothing, given, refusedAs, countsOf}
-use Rattle.wrong.specs.Named.{zeros, genesis, signature, parts, first, seconds, verdicts, upgrade, noPool, frontFor}
+use Rattle.wrong.specs.Named.{zeros, genesis, signature, parts, first, seconds, heldSeconds, verdicts, upgrade, noPool, frontFor}
 use Rattle.wrong.proofs.Laws.{rejected, touched}
 use Rattle.wrong.proofs.Opens.{opens}
-use Rattle.wrong.proofs.Continued.{check-from, accepted-from, front-from, reported-from}
+use Rattle.wrong.proofs.Continued.{check-from, holding-from, accepted-from, front-from, reported-from}
 
 -- ---- "one that refuses everything, one constant answer"
 pub read-number : Rejected λ s. numberAt s 0
@@ -69,6 +69,10 @@ check =
     rejected _ first (0 ∷ [])
     (ap (λ t. given (check-from first verdicts t)) (opens 4 refl))
     (ap (λ t. given (check-from (0 ∷ []) verdicts t)) (opens 4 refl))
+
+pub hold : Rejected λ size. holding genesis 3 first size
+unfolding heldChain run judged blockAt numberAt readGroups
+hold = rejected _ 162 161 (ap (λ t. given (holding-from first 162 t)) (opens 3 refl)) (ap (λ t. given (holding-from first 161 t)) (opens 3 refl))
 
 pub choose : Rejected λ chain. choice genesis 4 ([]) chain verdicts
 unfolding accepted heldChain deliveredChain run judged blockAt numberAt readGroups
@@ -161,6 +165,20 @@ pub the-second-block-is-judged-as-the-first-is :
 unfolding deliveredChain run judged blockAt numberAt readGroups
 the-second-block-is-judged-as-the-first-is =
     ap (λ t. every (λ s. refusedAs (s .number) 2 (check-from (first ++ s .bytes) (s .verdicts) t)) seconds) (opens 4 refl)
+
+-- of adoption and of the choice, which hang on this
+pub the-second-block-to-adopt-is-judged-as-the-first-is :
+    every (λ s. refusedAs (s .number) 2 (accepted genesis 4 ([]) 0 (first ++ s .bytes) (s .verdicts))) seconds ≡ true
+unfolding accepted heldChain deliveredChain run judged blockAt numberAt readGroups
+the-second-block-to-adopt-is-judged-as-the-first-is =
+    ap (λ t. every (λ s. refusedAs (s .number) 2 (accepted-from [] 0 (first ++ s .bytes) (s .verdicts) t)) seconds) (opens 4 refl)
+
+-- of the held chain, with which every call on it begins
+pub the-second-held-block-is-judged-as-the-first-is :
+    every (λ b. refusedAs 17 2 (holding genesis 4 (first ++ b) (length (first ++ b)))) heldSeconds ≡ true
+unfolding heldChain run judged blockAt numberAt readGroups
+the-second-held-block-is-judged-as-the-first-is =
+    ap (λ t. every (λ b. refusedAs 17 2 (holding-from (first ++ b) (length (first ++ b)) t)) heldSeconds) (opens 4 refl)
 
 -- ---- "one that invents the held or settled count": the named block, stamped 1, is settled from slot 3 on
 pub no-block-is-no-block : countsOf (reported genesis 3 first 0) ≡ gives (0, 0)

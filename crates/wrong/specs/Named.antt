@@ -54,15 +54,33 @@ pub record Second : Type 0 where
 abbrev pub second : List ℕ → List ℕ → ℕ → Second
 second bytes verdicts number = record { bytes = bytes; verdicts = verdicts; number = number }
 
+-- the bytes of its two numbers, the order count and the slot, between a link and signatures of zeros
+abbrev pub behind : List ℕ → List ℕ
+behind numbers = zeros 32 ++ (numbers ++ zeros 128)
+
+-- one byte short
+abbrev pub cut : List ℕ
+cut = zeros 32 ++ (0 ∷ 2 ∷ zeros 127)
+
 -- at slot 4: 3 to 8, which come before the link is looked at
 abbrev pub seconds : List Second
 seconds =
-    second (zeros 32 ++ (0 ∷ 2 ∷ zeros 127)) verdicts 3
-    ∷ second (zeros 32 ++ (0x80 ∷ 0 ∷ 2 ∷ zeros 128)) verdicts 4
-    ∷ second (zeros 32 ++ (9 ∷ 2 ∷ zeros 128)) verdicts 5
-    ∷ second (zeros 32 ++ (0 ∷ 1 ∷ zeros 128)) verdicts 6
-    ∷ second (zeros 32 ++ (0 ∷ 4 ∷ zeros 128)) verdicts 7
-    ∷ second (zeros 32 ++ (0 ∷ 2 ∷ zeros 128)) (3 ∷ []) 8
+    second cut verdicts 3
+    ∷ second (behind (0x80 ∷ 0 ∷ 2 ∷ [])) verdicts 4
+    ∷ second (behind (9 ∷ 2 ∷ [])) verdicts 5
+    ∷ second (behind (0 ∷ 1 ∷ [])) verdicts 6
+    ∷ second (behind (0 ∷ 4 ∷ [])) verdicts 7
+    ∷ second (behind (0 ∷ 2 ∷ [])) (3 ∷ []) 8
+    ∷ []
+
+-- and in what is held, where 3 to 6 and a stamp after now are all 17
+abbrev pub heldSeconds : List (List ℕ)
+heldSeconds =
+    cut
+    ∷ behind (0x80 ∷ 0 ∷ 2 ∷ [])
+    ∷ behind (9 ∷ 2 ∷ [])
+    ∷ behind (0 ∷ 1 ∷ [])
+    ∷ behind (0 ∷ 5 ∷ [])
     ∷ []
 
 -- display 0 from a release to another
