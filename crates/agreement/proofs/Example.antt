@@ -1,5 +1,5 @@
--- The laws can be met, by a run of 256 slots with a fork in it, so the theorems are not empty: controller 1 of 6 is faulty and gives out two
--- blocks in slot 1, and two chains are viable at slot 2. One of the two blocks is settled at slot 6.
+-- The laws can be met, by a run of 256 slots with a fork in it, so the theorems are not empty: controller 1 of 4 is faulty and gives out two
+-- blocks in slot 1, and two chains are viable at slot 2. One of the two blocks is settled at slot 12, since the depth is 10.
 -- Assumes nothing.
 use Prim.Native.Nat.{ℕ, zero, suc, _-_, _+_, _%_, _≤_, _<_}
 use mathlib.Core.Path.{_≡_, refl, sym, ap, _∙_}
@@ -8,6 +8,7 @@ use mathlib.Core.List.{List, [], _∷_, _++_, append-nil, append-assoc}
 use native.Mathlib.Omega.{arith}
 use lib.Dec.{eqb}
 use lib.ListN.{length, length-append}
+use Rattle.laws.specs.Depth.{depthFor}
 use Rattle.agreement.specs.Core.{Setting, howMany, Turns, Rises, settled, Below, Viable, Issue, Laws}
 use Rattle.laws.proofs.Each.{each-weaker, each-append}
 
@@ -46,9 +47,9 @@ abbrev pub faulty : ℕ → Bool
 faulty i = eqb i 1
 
 abbrev pub run : Setting
-run = record { Block = Block; stamp = stamp; valid = Links []; good = λ j. not (faulty ((j - 1) % 6 + 1)); issued = issued; end = 256 }
+run = record { Block = Block; stamp = stamp; valid = Links []; good = λ j. not (faulty ((j - 1) % 4 + 1)); issued = issued; end = 256 }
 
-pub turns : Turns run 6 1 faulty
+pub turns : Turns run 4 1 faulty
 unfolding howMany
 turns = record { enough = omega arith; few = omega arith; turn = λ j low high. refl }
 
@@ -137,6 +138,6 @@ pub two-are-viable : Viable run 2 (first ∷ []) × Viable run 2 (other ∷ [])
 two-are-viable =
     (chain-viable 0, record { passes = (refl, tt); below = (omega arith, tt); long = λ k good low high. omega (arith, short k) })
 
-pub one-is-settled : Viable run 6 (chain 4) × (settled run 4 6 (chain 4) ≡ first ∷ [])
+pub one-is-settled : Viable run 12 (chain 10) × (settled run (depthFor 4 1) 12 (chain 10) ≡ first ∷ [])
 unfolding settled
-one-is-settled = (chain-viable 4, refl)
+one-is-settled = (chain-viable 10, refl)
