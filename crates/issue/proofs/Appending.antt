@@ -1,6 +1,6 @@
 -- The next block behind a held chain: its parts fit, and it follows.
 -- Assumes nothing.
-use Prim.Native.Nat.{ℕ, zero, suc, _+_, _-_, _/_, _%_, _^_, _<_, _≤_, zero-le}
+use Prim.Native.Nat.{ℕ, zero, suc, _+_, _-_, _/_, _%_, _^_, _<_, zero-le}
 use mathlib.Core.Path.{_≡_, ap, subst}
 use mathlib.Core.Bool.{Bool, true, false}
 use mathlib.Core.List.{List, [], _∷_, _++_}
@@ -11,19 +11,19 @@ use lib.Seq.{take-append-seam}
 use borrow.Author.Tests.{lt-ltb}
 use Rattle.laws.specs.Pick.{pick}
 use Rattle.laws.specs.Told.{gives}
-use Rattle.laws.specs.Every.{both, same, within, every}
+use Rattle.laws.specs.Every.{both, same, within}
 use Rattle.laws.specs.Format.{Bytes, Each}
 use Rattle.laws.specs.Tabulate.{tabulate}
 use Rattle.laws.proofs.Told.{gives-same, then-gives, unless-gives}
 use Rattle.laws.proofs.Bytes.{bytes-filled}
 use Rattle.laws.proofs.Each.{each-append, each-take, each-those}
-use Rattle.laws.proofs.Every.{same-refl, both-true, within-here}
+use Rattle.laws.proofs.Every.{same-refl, within-here}
 use Rattle.laws.proofs.Tabulate.{length-tabulate}
-use Rattle.number.specs.Number.{largest}
 use Rattle.order.specs.declared.Order.{Order}
 use Rattle.sha256.specs.Sha256.{sha256, longest, padded, hashed, digestByte}
-use Rattle.block.specs.Block.{Parts, frontBytes, blockBytes, OrderFits, Fits}
-use Rattle.block.specs.Blocks.{knownDisplay}
+use Rattle.block.specs.Block.{Parts, frontBytes, blockBytes, Fits}
+use Rattle.block.specs.Typed.{Writable}
+use Rattle.block.proofs.Calls.{fit-orders}
 use Rattle.chain.specs.Chain.{linkOf}
 use Rattle.chain.specs.Blocks.{follows, followed}
 use Rattle.chain.specs.declared.Opened.{Opened}
@@ -91,9 +91,6 @@ nextParts o held pool signature seal = record {
   blockSignature = seal;
 }
 
-abbrev pub Writable : Order → Type 0
-Writable o = (o .expected ≤ largest) × (o .new ≤ largest)
-
 -- signatures of 64 bytes, and orders of releases that can be written, as the code's types have them
 pub record Given (pool : Pool) (signature seal : List ℕ) : Type 0 where
   pub signature-size : length signature ≡ 64
@@ -137,12 +134,6 @@ each-taken limit (o ∷ rest) t (here, more) so-far = each-taken limit rest (tak
     by-test : (β : Bool) → Each Writable (pick β (record { orders = t .orders ++ (o ∷ []); releases = applied (t .releases) o }) t .orders)
     by-test true = each-append Writable (t .orders) (o ∷ []) so-far (here, tt)
     by-test false = so-far
-
-fit-orders : (l : List Order) → every knownDisplay l ≡ true → Each Writable l → Each OrderFits l
-fit-orders [] known each = tt
-fit-orders (o ∷ l) known (here, rest) =
-    let (shown, more) = both-true (knownDisplay o) (every knownDisplay l) known in
-    ((shown, here .0, here .1), fit-orders l more rest)
 
 pub next-parts-fit : (o : Opened) (held : Summary) (pool : Pool) (signature seal : List ℕ) → Digest (held .whole .link) → Given pool signature seal
     → within 1 256 (o .clock .0) ≡ true → Fits (nextParts o held pool signature seal)

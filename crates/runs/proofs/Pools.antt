@@ -24,7 +24,7 @@ use Rattle.pool.specs.Answers.{poolOr}
 use Rattle.pool.specs.declared.Entry.{Entry}
 use Rattle.pool.specs.declared.Pool.{Pool}
 use Rattle.pool.proofs.Joining.{entries-of}
-use Rattle.issue.proofs.Appending.{Writable}
+use Rattle.block.specs.Typed.{Writable}
 use Rattle.issue.proofs.Appended.{opened-link}
 
 abbrev pub Written : Entry → Type 0
