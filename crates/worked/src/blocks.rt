@@ -1,56 +1,35 @@
 // Single blocks, read: `block`, and `body` for what judging one needs. Also how a block is printed.
-use crate::ROOM;
 use crate::fields;
-use crate::fields::part;
-use crate::fields::same;
 use crate::print;
 use block::Block;
 use block::Orders;
 use block::Place;
 use order::Order;
 
-// Answers a case of one of these ops, and says whether it is one.
-pub fn answer(op: &[u8], line: &[u8]) -> bool {
-    if same(op, b"block") {
-        block(line);
-        return true;
-    }
-    if same(op, b"body") {
-        body(line);
-        return true;
-    }
-    false
-}
-
 // block BYTES AT
-fn block(line: &[u8]) {
-    let mut space = [0u8; ROOM];
-    let length = fields::bytes(line, 1, &mut space);
-    let read = block::read(part(&space, 0, length), fields::place(line, 2));
+pub fn block(line: &[u8], bytes: &[u8]) {
+    let read = block::read(bytes, fields::place(line, 2));
     let place = read.place;
     let block = read.block;
     match place {
         Place::Next(next) => {
             print_block(block);
-            print::value(b" next", next as u64);
+            print::value(b" next #", next as u64);
         }
         Place::Refused(number) => print::refused(number),
     }
 }
 
 // body BYTES AT
-fn body(line: &[u8]) {
-    let mut space = [0u8; ROOM];
-    let length = fields::bytes(line, 1, &mut space);
-    let read = block::read_body(part(&space, 0, length), fields::place(line, 2));
+pub fn body(line: &[u8], bytes: &[u8]) {
+    let read = block::read_body(bytes, fields::place(line, 2));
     let place = read.place;
     let orders = read.orders;
     let slot = read.slot;
     match place {
         Place::Next(next) => {
             print_orders(orders);
-            print::value(b" slot", slot.0 as u64);
-            print::value(b" next", next as u64);
+            print::numbers(b" slot # next #", &[slot.0 as u64, next as u64]);
         }
         Place::Refused(number) => print::refused(number),
     }
@@ -65,15 +44,14 @@ pub fn print_block(block: Block) {
     print::bytes(&link);
     print::text(b" ");
     print_orders(front.orders);
-    print::value(b" slot", front.slot.0 as u64);
-    print::text(b" signatures ");
+    print::value(b" slot # signatures ", front.slot.0 as u64);
     print::bytes(&slot_signature);
     print::text(b" ");
     print::bytes(&block_signature);
 }
 
 fn print_orders(orders: Orders) {
-    print::value(b"orders", orders.count as u64);
+    print::value(b"orders #", orders.count as u64);
     let list = orders.list;
     let mut i = 0;
     while i < 8 {
@@ -85,8 +63,13 @@ fn print_orders(orders: Orders) {
     }
 }
 
-fn print_order(order: Order) {
-    print::value(b"", order.display as u64);
-    print::value(b"", order.expected as u64);
-    print::value(b"", order.new as u64);
+pub fn print_order(order: Order) {
+    print::numbers(
+        b" # # #",
+        &[
+            order.display as u64,
+            order.expected as u64,
+            order.new as u64,
+        ],
+    );
 }

@@ -1,5 +1,6 @@
-// A case's line taken apart. Nothing here refuses: a field that is missing is empty, a byte past the end is 0, a character that is no digit
-// counts as 0, and what goes past a buffer's end is dropped.
+// A case's line taken apart. Only `readable` refuses: elsewhere a field that is missing is empty, a byte past the end is 0, a character that
+// is no digit counts as 0, and what goes past a buffer's end is dropped.
+use order::Slot;
 ghost use Prim.Native.Nat.{_≤_};
 
 // The part of a slice between two places, empty if it has no such part.
@@ -11,25 +12,6 @@ pub fn part(s: &[u8], from: usize, to: usize) -> &[u8] {
         return &s[..0];
     }
     &s[from..to]
-}
-
-// So many bytes from a place on.
-pub fn span(s: &[u8], at: usize, length: usize) -> &[u8] {
-    if s.len() < at {
-        return &s[..0];
-    }
-    if s.len() - at < length {
-        return &s[..0];
-    }
-    &s[at..at + length]
-}
-
-// The first bytes of a buffer, none of them if it is shorter.
-pub fn front_mut(s: &mut [u8], length: usize) -> &mut [u8] {
-    if s.len() < length {
-        return &mut s[..0];
-    }
-    &mut s[..length]
 }
 
 pub fn byte_at(s: &[u8], at: usize) -> u8 {
@@ -87,6 +69,33 @@ fn space_from(line: &[u8], from: usize) -> usize {
     i
 }
 
+// Whether so many fields follow the op, none of them empty, all of characters that a field may have.
+pub fn readable(line: &[u8], least: usize) -> bool {
+    let mut i = space_from(line, 0);
+    while i < line.len() {
+        if line[i] == b' ' {
+            if !stands_in_field(byte_at(line, i + 1)) {
+                return false;
+            }
+        } else if !stands_in_field(line[i]) {
+            return false;
+        }
+        i += 1;
+    }
+    0 < field(line, least).len()
+}
+
+fn stands_in_field(byte: u8) -> bool {
+    match byte {
+        b'0'..=b'9' => true,
+        b'a'..=b'f' => true,
+        b'+' => true,
+        b'*' => true,
+        b'-' => true,
+        _ => false,
+    }
+}
+
 // The field as a place or a length.
 pub fn place(line: &[u8], spaces: usize) -> usize {
     decimal(field(line, spaces)) as usize
@@ -98,8 +107,12 @@ pub fn number(line: &[u8], spaces: usize) -> u32 {
     if value < 4294967296 {
         value as u32
     } else {
-        4294967295
+        u32::MAX
     }
+}
+
+pub fn slot(line: &[u8], spaces: usize) -> Slot {
+    Slot(number(line, spaces))
 }
 
 fn decimal(text: &[u8]) -> u64 {
@@ -132,11 +145,44 @@ fn nibble(digit: u8) -> u8
 
 // Puts the bytes that a field stands for at the front of a buffer, and answers how many they are.
 pub fn bytes(line: &[u8], spaces: usize, out: &mut [u8]) -> usize {
-    pieces(field(line, spaces), out)
+    pieces(field(line, spaces), out, 0)
 }
 
-fn pieces(text: &[u8], out: &mut [u8]) -> usize {
-    let mut place = 0;
+// The same, and what is answered is that front.
+pub fn buffer<'a>(line: &[u8], spaces: usize, out: &'a mut [u8]) -> &'a mut [u8] {
+    let length = bytes(line, spaces, out);
+    if out.len() < length {
+        return &mut out[..0];
+    }
+    &mut out[..length]
+}
+
+// Puts the bytes of the first seven fields into a buffer one after another, and answers where they end, for `string`.
+pub fn strings(line: &[u8], out: &mut [u8]) -> [usize; 8] {
+    let mut ends = [0usize; 8];
+    let mut at = 0;
+    let mut i = 1;
+    while i < 8 {
+        at = pieces(field(line, i), out, at);
+        ends[i] = at;
+        i += 1;
+    }
+    ends
+}
+
+// The bytes of one of them.
+pub fn string<'a>(bytes: &'a [u8], ends: &[usize; 8], spaces: usize) -> &'a [u8] {
+    if spaces == 0 {
+        return &bytes[..0];
+    }
+    if 8 <= spaces {
+        return &bytes[..0];
+    }
+    part(bytes, ends[spaces - 1], ends[spaces])
+}
+
+fn pieces(text: &[u8], out: &mut [u8], at: usize) -> usize {
+    let mut place = at;
     let mut start = 0;
     let mut i = 0;
     while i < text.len() {

@@ -17,8 +17,10 @@ use fields::part;
 use fields::put;
 use libc::STDIN_FILENO;
 
-// The longest byte string that a field may stand for.
+// The longest byte string that a field may stand for, and the byte strings of a line.
 const ROOM: usize = 70000;
+
+const STRINGS: usize = 280000;
 
 // The longest line.
 const LINE: usize = 262144;
@@ -35,9 +37,19 @@ fn run(line: &mut [u8]) {
     while 0 < left {
         match more(line, used) {
             Input::Used(next) => used = next,
-            Input::Ended => return,
+            Input::Ended => {
+                ended(part(line, 0, used));
+                return;
+            }
         }
         left -= 1;
+    }
+}
+
+// The last line may have no newline.
+fn ended(line: &[u8]) {
+    if 0 < line.len() {
+        answered(line);
     }
 }
 
@@ -78,47 +90,65 @@ fn taken(line: &mut [u8], used: usize, byte: u8) -> usize {
 
 // A comment, or an empty line, is printed as it stands.
 fn answered(line: &[u8]) {
-    if line.len() == 0 {
-        print::text(b"\n");
-        return;
-    }
     if byte_at(line, 0) == b'#' {
         print::text(line);
-    } else {
+    } else if 0 < line.len() {
         answer(line);
     }
     print::text(b"\n");
 }
 
-// One of these for each file of ops.
+// Each op with the least number of its fields, in the order of `run_op`.
 fn answer(line: &[u8]) {
+    let op = op_of(
+        line,
+        b"valid 4 take 4 genesis 1 turn 2 depth 1 key 2 block 2 body 2 write 7 front 6 length 2 slot-text 2 walk 2 check 4 held 4 choose 5 adopt 6 offer 8 draft 8 text 8 append 8",
+    );
+    let mut bytes = [0u8; STRINGS];
+    let ends = fields::strings(line, &mut bytes);
+    let mut space = [0u8; ROOM];
+    run_op(op, line, &bytes, &ends, &mut space);
+}
+
+// The place of a line's op among these, or their number if the line can't be read.
+fn op_of(line: &[u8], ops: &[u8]) -> usize {
     let op = field(line, 0);
-    if orders::answer(op, line) {
-        return;
+    let mut i = 0;
+    while i < 21 {
+        if fields::same(op, field(ops, 2 * i)) {
+            if fields::readable(line, fields::place(ops, 2 * i + 1)) {
+                return i;
+            }
+        }
+        i += 1;
     }
-    if tables::answer(op, line) {
-        return;
+    i
+}
+
+fn run_op(op: usize, line: &[u8], bytes: &[u8], ends: &[usize; 8], space: &mut [u8]) {
+    let first = fields::string(bytes, ends, 1);
+    match op {
+        0 => orders::valid(line),
+        1 => orders::take(line),
+        2 => tables::genesis(first),
+        3 => tables::turn(line, first),
+        4 => tables::depth(first),
+        5 => tables::key(line, first),
+        6 => blocks::block(line, first),
+        7 => blocks::body(line, first),
+        8 => writes::write(line, space),
+        9 => writes::front(line, space),
+        10 => writes::length(line),
+        11 => writes::slot_text(line, space),
+        12 => walks::walk(line, first),
+        13 => chains::check(line, bytes, ends),
+        14 => chains::held(line, bytes, ends),
+        15 => adoptions::choose(line, bytes, ends),
+        16 => adoptions::adopt(line, bytes, ends, space),
+        17 => pools::offer(line, bytes, ends),
+        18 => issues::draft(line, bytes, ends, space),
+        19 => issues::text(line, bytes, ends, space),
+        20 => issues::append(line, first, space),
+        _ => print::text(b"bad line"),
     }
-    if blocks::answer(op, line) {
-        return;
-    }
-    if writes::answer(op, line) {
-        return;
-    }
-    if walks::answer(op, line) {
-        return;
-    }
-    if chains::answer(op, line) {
-        return;
-    }
-    if adoptions::answer(op, line) {
-        return;
-    }
-    if pools::answer(op, line) {
-        return;
-    }
-    if issues::answer(op, line) {
-        return;
-    }
-    print::text(b"no such op");
 }

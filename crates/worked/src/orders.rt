@@ -1,30 +1,16 @@
 // Orders at one display's release: `valid` and `take`.
 use crate::fields;
-use crate::fields::same;
 use crate::print;
 use order::Order;
 
-// Answers a case of one of these ops, and says whether it is one.
-pub fn answer(op: &[u8], line: &[u8]) -> bool {
-    if same(op, b"valid") {
-        valid(line);
-        return true;
-    }
-    if same(op, b"take") {
-        take(line);
-        return true;
-    }
-    false
-}
-
 // valid DISPLAY RELEASE EXPECTED NEW
-fn valid(line: &[u8]) {
+pub fn valid(line: &[u8]) {
     let releases = releases(line);
     verdict(order::valid(&releases, ordered(line)));
 }
 
 // take DISPLAY RELEASE EXPECTED NEW: the verdict, and the releases afterwards.
-fn take(line: &[u8]) {
+pub fn take(line: &[u8]) {
     let mut releases = releases(line);
     verdict(order::take(&mut releases, ordered(line)));
     print::releases(&releases);

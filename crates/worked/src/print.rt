@@ -1,31 +1,50 @@
 // What an answer is printed with.
 use crate::fields::part;
 use libc::STDOUT_FILENO;
+use refusal::Answer;
 ghost use Prim.Native.Nat.{_≤_};
 
 pub fn text(bytes: &[u8]) {
     io::write_all(STDOUT_FILENO, bytes);
 }
 
-pub fn decimal(value: u64) {
+fn decimal(value: u64) {
     io::print_decimal(STDOUT_FILENO, value);
 }
 
-// A word, which may be empty, a space and a number.
-pub fn value(word: &[u8], value: u64) {
-    text(word);
-    text(b" ");
-    decimal(value);
+// A text with the numbers in place of its `#`, one after another.
+pub fn numbers(form: &[u8], numbers: &[u64]) {
+    let mut next = 0;
+    let mut i = 0;
+    while i < form.len() {
+        if form[i] != b'#' {
+            text(part(form, i, i + 1));
+        } else if next < numbers.len() {
+            decimal(numbers[next]);
+            next += 1;
+        }
+        i += 1;
+    }
+}
+
+pub fn value(form: &[u8], value: u64) {
+    numbers(form, &[value]);
+}
+
+// Prints a refusal, with its place, and says whether there is none.
+pub fn good(answer: Answer) -> bool {
+    match answer {
+        Answer::Good => true,
+        Answer::Refused(number, place) => {
+            numbers(b"refused # #", &[number as u64, place.0 as u64]);
+            false
+        }
+    }
 }
 
 // A refusal with no place.
 pub fn refused(number: u32) {
-    refused_at(number, 0);
-}
-
-pub fn refused_at(number: u32, place: u32) {
-    value(b"refused", number as u64);
-    value(b"", place as u64);
+    value(b"refused # 0", number as u64);
 }
 
 // Bytes in the form of a case's field: pieces of hexadecimal digits, where a byte that stands four times or more is written once.
@@ -109,9 +128,6 @@ pub fn releases(releases: &[u32; 64]) {
 
 fn release(display: usize, release: u32) {
     if release != 0 {
-        text(b" ");
-        decimal(display as u64);
-        text(b":");
-        decimal(release as u64);
+        numbers(b" #:#", &[display as u64, release as u64]);
     }
 }

@@ -1,43 +1,16 @@
 // Blocks, their fronts and slot texts written into lent buffers: `write`, `front`, `length`, `slot-text`. What is printed ends with every
 // byte of the buffer, so that a byte that should have stayed is seen.
-use crate::ROOM;
 use crate::fields;
-use crate::fields::front_mut;
-use crate::fields::same;
 use crate::print;
 use block::Block;
 use block::Front;
 use block::Orders;
 use block::Place;
 use order::Order;
-use order::Slot;
-
-// Answers a case of one of these ops, and says whether it is one.
-pub fn answer(op: &[u8], line: &[u8]) -> bool {
-    if same(op, b"write") {
-        write(line);
-        return true;
-    }
-    if same(op, b"front") {
-        front(line);
-        return true;
-    }
-    if same(op, b"length") {
-        length(line);
-        return true;
-    }
-    if same(op, b"slot-text") {
-        slot_text(line);
-        return true;
-    }
-    false
-}
 
 // write BUFFER AT LINK SLOT SLOT-SIGNATURE BLOCK-SIGNATURE COUNT DISPLAY EXPECTED NEW ..
-fn write(line: &[u8]) {
-    let mut space = [0u8; ROOM];
-    let length = fields::bytes(line, 1, &mut space);
-    let buffer = front_mut(&mut space, length);
+pub fn write(line: &[u8], space: &mut [u8]) {
+    let buffer = fields::buffer(line, 1, space);
     let front = front_of(line, 7);
     let block_signature = signature(line, 6);
     let block = Block {
@@ -49,37 +22,32 @@ fn write(line: &[u8]) {
 }
 
 // front BUFFER AT LINK SLOT SLOT-SIGNATURE COUNT DISPLAY EXPECTED NEW ..
-fn front(line: &[u8]) {
-    let mut space = [0u8; ROOM];
-    let length = fields::bytes(line, 1, &mut space);
-    let buffer = front_mut(&mut space, length);
+pub fn front(line: &[u8], space: &mut [u8]) {
+    let buffer = fields::buffer(line, 1, space);
     let front = front_of(line, 6);
     written(block::write_front(buffer, fields::place(line, 2), front));
     print::bytes(buffer);
 }
 
 // slot-text SLOT BUFFER
-fn slot_text(line: &[u8]) {
-    let mut space = [0u8; ROOM];
-    let length = fields::bytes(line, 2, &mut space);
-    let buffer = front_mut(&mut space, length);
-    written(block::slot_text(buffer, Slot(fields::number(line, 1))));
+pub fn slot_text(line: &[u8], space: &mut [u8]) {
+    let buffer = fields::buffer(line, 2, space);
+    written(block::slot_text(buffer, fields::slot(line, 1)));
     print::bytes(buffer);
 }
 
 fn written(place: Place) {
     match place {
-        Place::Next(next) => print::value(b"next", next as u64),
+        Place::Next(next) => print::value(b"next #", next as u64),
         Place::Refused(number) => print::refused(number),
     }
     print::text(b" ");
 }
 
 // length SLOT COUNT DISPLAY EXPECTED NEW ..
-fn length(line: &[u8]) {
-    let orders = orders_of(fields::tail(line, 2));
-    let slot = Slot(fields::number(line, 1));
-    print::value(b"length", block::length(orders, slot) as u64);
+pub fn length(line: &[u8]) {
+    let length = block::length(orders_of(fields::tail(line, 2)), fields::slot(line, 1));
+    print::value(b"length #", length as u64);
 }
 
 // The parts that both kinds of writing take. The orders stand last, from this field on.
@@ -91,7 +59,7 @@ fn front_of(line: &[u8], orders: usize) -> Front {
     Front {
         link,
         orders,
-        slot: Slot(fields::number(line, 4)),
+        slot: fields::slot(line, 4),
         slot_signature,
     }
 }

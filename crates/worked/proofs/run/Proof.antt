@@ -23,6 +23,12 @@ enum-known-next c = search needs
 enum-told : tie.Need-enum-told Inv-loop μ-loop
 enum-told c = search needs
 
+part-requires : tie.Need-part-requires Inv-loop μ-loop
+part-requires c κs = search needs
+
+ended-requires : tie.Need-ended-requires Inv-loop μ-loop
+ended-requires c κs = search needs
+
 same-length : tie.Need-same-length Inv-loop μ-loop
 same-length c = search needs
 
@@ -54,6 +60,8 @@ run-spec =
     more-requires
     enum-known-next
     enum-told
+    part-requires
+    ended-requires
     same-length
     returns
     sub-left

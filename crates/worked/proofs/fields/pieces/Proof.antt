@@ -8,10 +8,10 @@ use Rattle.worked.proofs.fields.pieces.Statement.{statement}
 use Rattle.worked.proofs.fields.pieces.Tie as tie
 
 abbrev Inv-loop : tie.InvT-loop
-Inv-loop text out₀ place₀ start₀ i₀ out place start i = (i ≤ length text) × (length out ≡ length out₀)
+Inv-loop text out₀ at place₀ start₀ i₀ out place start i = (i ≤ length text) × (length out ≡ length out₀)
 
 abbrev μ-loop : tie.MeasureT-loop
-μ-loop text out₀ place₀ start₀ i₀ out place start i = length text - i
+μ-loop text out₀ at place₀ start₀ i₀ out place start i = length text - i
 
 loop-holds : tie.Need-loop-holds Inv-loop μ-loop
 loop-holds c = search needs

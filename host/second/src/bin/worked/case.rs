@@ -71,14 +71,14 @@ pub struct Section {
     pub cases: Vec<Case>,
 }
 
-/// The lines that the program is run on.
+/// The lines that the program is run on. The last one has no newline.
 pub fn input(sections: &[Section]) -> String {
-    lines(sections, Case::input)
+    lines(sections, Case::input).trim_end().into()
 }
 
 /// The lines that it must print.
 pub fn output(sections: &[Section]) -> String {
-    lines(sections, Case::output)
+    lines(sections, Case::output).trim_end().to_string() + "\n"
 }
 
 fn lines(sections: &[Section], line: impl Fn(&Case) -> String) -> String {

@@ -10,6 +10,7 @@ mod faults;
 mod held;
 mod issues;
 mod judging;
+mod lines;
 mod orders;
 mod pools;
 mod random;
@@ -37,6 +38,7 @@ fn document() -> Vec<Section> {
         adoptions::sections(),
         pools::sections(),
         issues::sections(),
+        lines::sections(),
     ]
     .into_iter()
     .flatten()
