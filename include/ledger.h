@@ -35,7 +35,8 @@
  *
  * What to do at 17 and 18. A call meets them again with the same arguments, for ever. At 17 put the length to 0 and adopt the next whole chain that
  * is delivered. At 18 empty the pool, all zeros, and offer its orders again. (If the clock was wrong, set it right first.) A controller that met one
- * of them, or missed a slot, counts among the t faulty for the rest of the run, or until it has joined again: its report is not to be used.
+ * of them, or missed a slot, counts among the t faulty to the end of the run, whatever it adopts: its report is not to be used. A way to join again
+ * within a run is to come.
  *
  * The target is x86-64 with the System V calling convention. The archive uses SSE2 and the red zone, the 128 bytes below the stack pointer: where
  * interrupts run on the stack of what they interrupt, as in a kernel, give them a stack of their own or keep them off during a call.
@@ -293,7 +294,7 @@ ledger_key_answer ledger_find_key(const uint8_t *bytes, size_t bytes_length, uin
 /* Whose turn a slot is: a controller, or 0 where the table has none. No refusal: any slot has a turn, and slot 0 is answered as slot 1 is. */
 uint32_t ledger_turn(ledger_genesis table, ledger_slot slot);
 
-/* How many slots a block must lie back to be settled: it is if its slot + depth < now. 0 for a table that was not read, whose n is not 1 to 31 or is
+/* A block is settled when it lies more than so many slots back: if its slot + depth < now. 0 for a table that was not read, whose n is not 1 to 31 or is
    below 3t + 1; where it is 255 or more, nothing settles in a run. No refusal. */
 uint64_t ledger_depth(ledger_genesis table);
 

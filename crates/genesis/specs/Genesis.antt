@@ -58,7 +58,7 @@ turn g slot = pick (ltb 0 (g .n)) ((slot - 1) % g .n + 1) 0
 abbrev pub clockFits : Genesis → ℕ → Bool
 clockFits g clock = within 1 256 clock
 
--- how many slots a block must lie back to be settled: none is told for numbers that no genesis gives
+-- a block is settled when it lies more than so many slots back; 0 for numbers that no genesis gives
 abbrev pub depth : Genesis → ℕ
 depth g = pick (enough (g .n) (g .t)) (depthFor (g .n) (g .t)) 0
 

@@ -202,7 +202,7 @@ pub fn clock_fits(table: Genesis, clock: Slot) -> bool
     in_run(clock, Slot(LAST_SLOT))
 }
 
-// How many slots a block must lie back to be settled.
+// A block is settled when it lies more than so many slots back. 0 for numbers that no genesis gives.
 pub fn depth(table: Genesis) -> u64
     ensures { λ r. ⌜ r ≡ spec.depth table ⌝ }
 {

@@ -1,4 +1,5 @@
--- 02, e: how many slots a block must lie back to be settled. It is what the code answers and what the argument of demand 3 is about.
+-- 02, e: a block is settled when it lies more than so many slots back. The code answers this of a table that was read, and the argument of demand 3 is
+-- about it.
 -- Assumes nothing.
 use Prim.Native.Nat.{ℕ, _+_, _-_, _*_, _/_}
 

@@ -1,5 +1,5 @@
 -- What crosses to a host in the place of an answer: the refusal's number, 0 where there is none, its place, and the values, or what stands beside a
--- refusal: zeros, the pool as it came, the length that was held before.
+-- refusal: zeros, the pool as it came, the length that was held before, the place that a walk has reached.
 -- Assumes nothing.
 use Prim.Native.Nat.{ℕ}
 use mathlib.Core.Bool.{Bool, true, false}
