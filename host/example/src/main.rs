@@ -35,7 +35,7 @@ impl Controller {
         Ok(())
     }
 
-    /// Its turn: it signs the slot text, then the block text, appends, stores the chain, and only then sends it.
+    /// Its turn: it signs the slot text, then the block text, and appends. A host stores chain and slot before it sends.
     fn issue(&mut self, genesis: &[u8], now: Slot) -> Result<&[u8], Refusal> {
         let mut text = [0; SLOT_TEXT_BYTES];
         let slot_signature = sign(&self.key, ledger::slot_text(now, &mut text)?);

@@ -5,6 +5,7 @@ use core::fmt::{self, Display, Formatter};
 use crate::{raw, read_number, told, write_number};
 use crate::{
     Genesis, Kind, Refusal, Releases, Slot, CONTROLLERS, DISPLAYS, GENESIS_BYTES, KEY_BYTES,
+    POOL_SLOTS,
 };
 
 impl Genesis {
@@ -116,7 +117,7 @@ fn head_fault(n: u32, t: u32, u: u32) -> Result<(), GenesisFault> {
     if u64::from(n) < 3 * u64::from(t) + 1 {
         return Err(GenesisFault::Faulty { n, t });
     }
-    if !(1..=64).contains(&u) {
+    if !(1..=POOL_SLOTS as u32).contains(&u) {
         return Err(GenesisFault::Pooled { u });
     }
     Ok(())

@@ -13,6 +13,8 @@ pub const SLOTS: usize = 256;
 pub const ORDERS: usize = 8;
 /// The most entries of a pool.
 pub const POOL_ROOM: usize = 64;
+/// The most slots that an order stays pooled: u is 1 to 64.
+pub const POOL_SLOTS: usize = 64;
 /// The most bytes of a number.
 pub const NUMBER_BYTES: usize = 5;
 pub const KEY_BYTES: usize = 32;
