@@ -109,6 +109,10 @@ use Rattle.number.proofs.length.Kinds as number-length-kinds
 use Rattle.number.proofs.length.Reads as number-length
 use Rattle.number.proofs.read.Kinds as number-read-number-kinds
 use Rattle.number.proofs.read.Reads as number-read-number
+use Rattle.order.proofs.in_run.Kinds as order-in-run-kinds
+use Rattle.order.proofs.in_run.Reads as order-in-run
+use Rattle.order.proofs.slots_before.Kinds as order-slots-before-kinds
+use Rattle.order.proofs.slots_before.Reads as order-slots-before
 use Rattle.order.proofs.within.Kinds as order-within-kinds
 use Rattle.order.proofs.within.Reads as order-within
 use Rattle.number.proofs.write.Kinds as number-write-number-kinds
@@ -181,9 +185,6 @@ write-number-answers-once κs a x y s t p q = writing-faithful x y (p .0 ∙ sym
 pub write-number-leaves-its-buffer-once : OneLater 1 number-write-number-kinds.ps number-write-number-kinds.r number-write-number.Post (λ κs s. now (s .0))
 write-number-leaves-its-buffer-once κs a x y s t p q = p .1 ∙ sym (q .1)
 
-pub within-answers-once : OneAnswer 0 order-within-kinds.ps order-within-kinds.r order-within.Post
-within-answers-once κs a x y s t p q = p ∙ sym q
-
 -- ---- sha256
 pub digest-answers-once : OneAnswer 1 sha256-digest-kinds.ps sha256-digest-kinds.r sha256-digest.Post
 digest-answers-once κs a x y s t p q = digest-faithful x y (paired (p .0 ∙ sym (q .0)) (p .1 ∙ sym (q .1)))
@@ -191,6 +192,15 @@ digest-answers-once κs a x y s t p q = digest-faithful x y (paired (p .0 ∙ sy
 -- ---- order
 pub more-answers-once : OneAnswer 0 order-more-kinds.ps order-more-kinds.r order-more.Post
 more-answers-once κs a x y s t p q = p ∙ sym q
+
+pub within-answers-once : OneAnswer 0 order-within-kinds.ps order-within-kinds.r order-within.Post
+within-answers-once κs a x y s t p q = p ∙ sym q
+
+pub in-run-answers-once : OneAnswer 0 order-in-run-kinds.ps order-in-run-kinds.r order-in-run.Post
+in-run-answers-once κs a x y s t p q = p ∙ sym q
+
+pub slots-before-answers-once : OneAnswer 0 order-slots-before-kinds.ps order-slots-before-kinds.r order-slots-before.Post
+slots-before-answers-once κs a x y s t p q = p ∙ sym q
 
 pub earlier-answers-once : OneAnswer 0 order-earlier-kinds.ps order-earlier-kinds.r order-earlier.Post
 earlier-answers-once κs a x y s t p q = p ∙ sym q
