@@ -53,7 +53,7 @@ extern "C" {
 #endif
 
 /* The interface's version: it changes with every declaration of this header that changes. */
-#define LEDGER_VERSION 2
+#define LEDGER_VERSION 3
 
 /* Limits. */
 #define LEDGER_DISPLAYS 64           /* displays are 0 to 63 */
@@ -63,6 +63,7 @@ extern "C" {
 #define LEDGER_POOL_ROOM 64          /* the most entries of a pool */
 #define LEDGER_POOL_SLOTS 64         /* the most slots that an order stays pooled: u is 1 to 64 */
 #define LEDGER_NUMBER_BYTES 5        /* the most bytes of a number */
+#define LEDGER_LARGEST UINT64_C(34359738367) /* the largest number, and the largest release: 35 bits */
 #define LEDGER_KEY_BYTES 32
 #define LEDGER_DIGEST_BYTES 32       /* the bytes of a digest */
 #define LEDGER_LINK_BYTES 32
@@ -86,22 +87,22 @@ extern "C" {
 #define LEDGER_STACK_READ_NUMBER 256
 #define LEDGER_STACK_WRITE_NUMBER 256
 #define LEDGER_STACK_DIGEST 512
-#define LEDGER_STACK_READ_GENESIS 1536
-#define LEDGER_STACK_FIND_KEY 1280
-#define LEDGER_STACK_TURN 512
-#define LEDGER_STACK_DEPTH 512
-#define LEDGER_STACK_READ_BLOCK 1280
-#define LEDGER_STACK_WRITE_BLOCK 1280
+#define LEDGER_STACK_READ_GENESIS 2816
+#define LEDGER_STACK_FIND_KEY 2304
+#define LEDGER_STACK_TURN 768
+#define LEDGER_STACK_DEPTH 768
+#define LEDGER_STACK_READ_BLOCK 2560
+#define LEDGER_STACK_WRITE_BLOCK 1792
 #define LEDGER_STACK_SLOT_TEXT 256
-#define LEDGER_STACK_WALK_STEP 1280
-#define LEDGER_STACK_CHECK 4864
-#define LEDGER_STACK_CHOOSE 7680
-#define LEDGER_STACK_ADOPT 7680
-#define LEDGER_STACK_POOL_ORDER 12288
-#define LEDGER_STACK_DRAFT 11008
-#define LEDGER_STACK_BLOCK_TEXT 11008
-#define LEDGER_STACK_APPEND 11264
-#define LEDGER_STACK_REPORT 7424
+#define LEDGER_STACK_WALK_STEP 3072
+#define LEDGER_STACK_CHECK 7936
+#define LEDGER_STACK_CHOOSE 12544
+#define LEDGER_STACK_ADOPT 12800
+#define LEDGER_STACK_POOL_ORDER 23808
+#define LEDGER_STACK_DRAFT 20992
+#define LEDGER_STACK_BLOCK_TEXT 20992
+#define LEDGER_STACK_APPEND 21248
+#define LEDGER_STACK_REPORT 12544
 
 /* Refusal numbers. */
 enum ledger_refusal {
@@ -110,7 +111,8 @@ enum ledger_refusal {
     LEDGER_BAD_CLOCK = 2,          /* now is not 1 to 256 */
     LEDGER_CUT = 3,                /* bytes end inside a block or number */
     LEDGER_BAD_NUMBER = 4,         /* a number is not shortest, or too large */
-    LEDGER_OUT_OF_RANGE = 5,       /* order count, display or slot out of its range */
+    LEDGER_OUT_OF_RANGE = 5,       /* order count, display or slot out of its range; a release above the largest in an offer or a block to be
+                                      written */
     LEDGER_BAD_STAMP = 6,          /* a stamp not above the one before; draft or append: held chain ends at now */
     LEDGER_LATE_STAMP = 7,         /* a delivered stamp not below now */
     LEDGER_BAD_VERDICT = 8,        /* verdict not 3, or missing */
@@ -124,7 +126,8 @@ enum ledger_refusal {
     LEDGER_TOO_LONG = 16,          /* delivered chain over 64,256 bytes, or a slice to digest over 65,536 */
     LEDGER_BAD_HELD = 17,          /* held chain bad: longer than its buffer or than 64,256 bytes (place 0), or a block fails 3, 4, 5, 6, 9 or 10,
                                       or its stamp is above now (the block's place). It needs no verdicts, and its last stamp may equal now */
-    LEDGER_BAD_POOL = 18           /* pool bad: count above 64, or within the count an entry with a display above 63, slot 0 or a slot above now */
+    LEDGER_BAD_POOL = 18           /* pool bad: count above 64, or within the count an entry with a display above 63, a release above the largest,
+                                      slot 0 or a slot above now */
 };
 
 /* A slot, or a block's stamp. Apart from a number of blocks, so that neither can be taken for the other. */
@@ -137,11 +140,12 @@ typedef struct {
     uint32_t number;
 } ledger_block_count;
 
-/* An order: the release that a display is to have before, and the one that it is to have then. */
+/* An order: the release that a display is to have before, and the one that it is to have then. Releases are at most LEDGER_LARGEST; one above it
+   that a host hands in is refused, never cut. */
 typedef struct {
     uint32_t display;
-    uint32_t expected;
-    uint32_t new_release;
+    uint64_t expected;
+    uint64_t new_release;
 } ledger_order;
 
 /* The first `count` orders of the list are meant. Read from bytes, the others are zeros. */
@@ -184,14 +188,14 @@ typedef struct {
     uint32_t n;
     uint32_t t;
     uint32_t u;
-    uint32_t releases[LEDGER_DISPLAYS]; /* the starting releases */
+    uint64_t releases[LEDGER_DISPLAYS]; /* the starting releases */
     size_t keys_at;                     /* where the first key stands in the genesis bytes */
 } ledger_genesis;
 
 typedef struct {
     uint32_t refusal;
     ledger_block_count place;
-    uint32_t value;
+    uint64_t value;
     size_t next; /* the place after the number */
 } ledger_number_answer;
 
@@ -238,7 +242,7 @@ typedef struct {
     uint32_t refusal;
     ledger_block_count place;
     ledger_block_count count;
-    uint32_t releases[LEDGER_DISPLAYS]; /* after the last block */
+    uint64_t releases[LEDGER_DISPLAYS]; /* after the last block */
 } ledger_check_answer;
 
 typedef struct {
@@ -272,14 +276,14 @@ typedef struct {
     ledger_block_count held;
     ledger_block_count settled;
     size_t settled_length;              /* of the settled blocks in bytes */
-    uint32_t releases[LEDGER_DISPLAYS]; /* after the settled blocks */
+    uint64_t releases[LEDGER_DISPLAYS]; /* after the settled blocks */
 } ledger_report_answer;
 
 /* Reads the number at a place: 3, 4. */
 ledger_number_answer ledger_read_number(const uint8_t *bytes, size_t bytes_length, size_t at);
 
-/* Writes a number at a place of a buffer: 15. */
-ledger_write_answer ledger_write_number(uint32_t value, size_t at, uint8_t *out, size_t out_length);
+/* Writes a number at a place of a buffer: 4 if it is above LEDGER_LARGEST, 15. */
+ledger_write_answer ledger_write_number(uint64_t value, size_t at, uint8_t *out, size_t out_length);
 
 /* SHA-256: 16. */
 ledger_digest_answer ledger_digest(const uint8_t *message, size_t message_length);
@@ -370,41 +374,41 @@ ledger_report_answer ledger_report(const uint8_t *genesis, size_t genesis_length
 LEDGER_LAYOUT(ledger_size_t_size, sizeof(size_t) == 8);
 LEDGER_SIZE(ledger_slot, 4); LEDGER_AT(ledger_slot, number, 0);
 LEDGER_SIZE(ledger_block_count, 4); LEDGER_AT(ledger_block_count, number, 0);
-LEDGER_SIZE(ledger_order, 12); LEDGER_AT(ledger_order, display, 0); LEDGER_AT(ledger_order, expected, 4); LEDGER_AT(ledger_order, new_release, 8);
-LEDGER_SIZE(ledger_orders, 100); LEDGER_AT(ledger_orders, count, 0); LEDGER_AT(ledger_orders, list, 4);
-LEDGER_SIZE(ledger_front, 200); LEDGER_AT(ledger_front, link, 0); LEDGER_AT(ledger_front, orders, 32); LEDGER_AT(ledger_front, slot, 132);
-LEDGER_AT(ledger_front, slot_signature, 136);
-LEDGER_SIZE(ledger_block, 264); LEDGER_AT(ledger_block, front, 0); LEDGER_AT(ledger_block, block_signature, 200);
-LEDGER_SIZE(ledger_entry, 16); LEDGER_AT(ledger_entry, order, 0); LEDGER_AT(ledger_entry, slot, 12);
-LEDGER_SIZE(ledger_pool, 1028); LEDGER_AT(ledger_pool, count, 0); LEDGER_AT(ledger_pool, entries, 4);
+LEDGER_SIZE(ledger_order, 24); LEDGER_AT(ledger_order, display, 0); LEDGER_AT(ledger_order, expected, 8); LEDGER_AT(ledger_order, new_release, 16);
+LEDGER_SIZE(ledger_orders, 200); LEDGER_AT(ledger_orders, count, 0); LEDGER_AT(ledger_orders, list, 8);
+LEDGER_SIZE(ledger_front, 304); LEDGER_AT(ledger_front, link, 0); LEDGER_AT(ledger_front, orders, 32); LEDGER_AT(ledger_front, slot, 232);
+LEDGER_AT(ledger_front, slot_signature, 236);
+LEDGER_SIZE(ledger_block, 368); LEDGER_AT(ledger_block, front, 0); LEDGER_AT(ledger_block, block_signature, 304);
+LEDGER_SIZE(ledger_entry, 32); LEDGER_AT(ledger_entry, order, 0); LEDGER_AT(ledger_entry, slot, 24);
+LEDGER_SIZE(ledger_pool, 2056); LEDGER_AT(ledger_pool, count, 0); LEDGER_AT(ledger_pool, entries, 8);
 LEDGER_SIZE(ledger_signature, 64); LEDGER_AT(ledger_signature, bytes, 0);
-LEDGER_SIZE(ledger_genesis, 280); LEDGER_AT(ledger_genesis, n, 0); LEDGER_AT(ledger_genesis, t, 4); LEDGER_AT(ledger_genesis, u, 8);
-LEDGER_AT(ledger_genesis, releases, 12); LEDGER_AT(ledger_genesis, keys_at, 272);
+LEDGER_SIZE(ledger_genesis, 536); LEDGER_AT(ledger_genesis, n, 0); LEDGER_AT(ledger_genesis, t, 4); LEDGER_AT(ledger_genesis, u, 8);
+LEDGER_AT(ledger_genesis, releases, 16); LEDGER_AT(ledger_genesis, keys_at, 528);
 LEDGER_SIZE(ledger_number_answer, 24); LEDGER_AT(ledger_number_answer, refusal, 0); LEDGER_AT(ledger_number_answer, place, 4);
 LEDGER_AT(ledger_number_answer, value, 8); LEDGER_AT(ledger_number_answer, next, 16);
 LEDGER_SIZE(ledger_write_answer, 16); LEDGER_AT(ledger_write_answer, refusal, 0); LEDGER_AT(ledger_write_answer, place, 4);
 LEDGER_AT(ledger_write_answer, next, 8);
 LEDGER_SIZE(ledger_digest_answer, 40); LEDGER_AT(ledger_digest_answer, refusal, 0); LEDGER_AT(ledger_digest_answer, place, 4);
 LEDGER_AT(ledger_digest_answer, digest, 8);
-LEDGER_SIZE(ledger_genesis_answer, 288); LEDGER_AT(ledger_genesis_answer, refusal, 0); LEDGER_AT(ledger_genesis_answer, place, 4);
+LEDGER_SIZE(ledger_genesis_answer, 544); LEDGER_AT(ledger_genesis_answer, refusal, 0); LEDGER_AT(ledger_genesis_answer, place, 4);
 LEDGER_AT(ledger_genesis_answer, table, 8);
 LEDGER_SIZE(ledger_key_answer, 16); LEDGER_AT(ledger_key_answer, refusal, 0); LEDGER_AT(ledger_key_answer, place, 4);
 LEDGER_AT(ledger_key_answer, at, 8);
-LEDGER_SIZE(ledger_block_answer, 280); LEDGER_AT(ledger_block_answer, refusal, 0); LEDGER_AT(ledger_block_answer, place, 4);
+LEDGER_SIZE(ledger_block_answer, 384); LEDGER_AT(ledger_block_answer, refusal, 0); LEDGER_AT(ledger_block_answer, place, 4);
 LEDGER_AT(ledger_block_answer, next, 8); LEDGER_AT(ledger_block_answer, block, 16);
-LEDGER_SIZE(ledger_step_answer, 288); LEDGER_AT(ledger_step_answer, refusal, 0); LEDGER_AT(ledger_step_answer, place, 4);
+LEDGER_SIZE(ledger_step_answer, 392); LEDGER_AT(ledger_step_answer, refusal, 0); LEDGER_AT(ledger_step_answer, place, 4);
 LEDGER_AT(ledger_step_answer, end, 8); LEDGER_AT(ledger_step_answer, next, 16); LEDGER_AT(ledger_step_answer, block, 24);
-LEDGER_SIZE(ledger_check_answer, 268); LEDGER_AT(ledger_check_answer, refusal, 0); LEDGER_AT(ledger_check_answer, place, 4);
-LEDGER_AT(ledger_check_answer, count, 8); LEDGER_AT(ledger_check_answer, releases, 12);
+LEDGER_SIZE(ledger_check_answer, 528); LEDGER_AT(ledger_check_answer, refusal, 0); LEDGER_AT(ledger_check_answer, place, 4);
+LEDGER_AT(ledger_check_answer, count, 8); LEDGER_AT(ledger_check_answer, releases, 16);
 LEDGER_SIZE(ledger_choose_answer, 12); LEDGER_AT(ledger_choose_answer, refusal, 0); LEDGER_AT(ledger_choose_answer, place, 4);
 LEDGER_AT(ledger_choose_answer, delivered, 8);
 LEDGER_SIZE(ledger_adopt_answer, 24); LEDGER_AT(ledger_adopt_answer, refusal, 0); LEDGER_AT(ledger_adopt_answer, place, 4);
 LEDGER_AT(ledger_adopt_answer, length, 8); LEDGER_AT(ledger_adopt_answer, count, 16);
-LEDGER_SIZE(ledger_pool_answer, 1036); LEDGER_AT(ledger_pool_answer, refusal, 0); LEDGER_AT(ledger_pool_answer, place, 4);
+LEDGER_SIZE(ledger_pool_answer, 2064); LEDGER_AT(ledger_pool_answer, refusal, 0); LEDGER_AT(ledger_pool_answer, place, 4);
 LEDGER_AT(ledger_pool_answer, pool, 8);
 LEDGER_SIZE(ledger_issue_answer, 16); LEDGER_AT(ledger_issue_answer, refusal, 0); LEDGER_AT(ledger_issue_answer, place, 4);
 LEDGER_AT(ledger_issue_answer, length, 8);
-LEDGER_SIZE(ledger_report_answer, 280); LEDGER_AT(ledger_report_answer, refusal, 0); LEDGER_AT(ledger_report_answer, place, 4);
+LEDGER_SIZE(ledger_report_answer, 536); LEDGER_AT(ledger_report_answer, refusal, 0); LEDGER_AT(ledger_report_answer, place, 4);
 LEDGER_AT(ledger_report_answer, held, 8); LEDGER_AT(ledger_report_answer, settled, 12); LEDGER_AT(ledger_report_answer, settled_length, 16);
 LEDGER_AT(ledger_report_answer, releases, 24);
 #undef LEDGER_AT

@@ -41,6 +41,25 @@ static int numbers(void) {
     return 0;
 }
 
+/* The largest number has five bytes; one above it is refused before the buffer is looked at. */
+static int large_numbers(void) {
+    uint8_t out[LEDGER_NUMBER_BYTES];
+    memset(out, FILLER, sizeof out);
+    EXPECT(ledger_write_number(LEDGER_LARGEST + 1, 0, out, sizeof out).refusal == LEDGER_BAD_NUMBER);
+    EXPECT(ledger_write_number(LEDGER_LARGEST + 1, 0, NULL, 0).refusal == LEDGER_BAD_NUMBER);
+    EXPECT(ledger_write_number(UINT64_MAX, 0, out, sizeof out).refusal == LEDGER_BAD_NUMBER);
+    EXPECT(ledger_write_number(LEDGER_LARGEST, 0, out, 4).refusal == LEDGER_SHORT_BUFFER && out[0] == FILLER);
+    ledger_write_answer written = ledger_write_number(LEDGER_LARGEST, 0, out, sizeof out);
+    EXPECT(written.refusal == 0 && written.next == 5 && memcmp(out, "\xFF\xFF\xFF\xFF\x7F", 5) == 0);
+    ledger_number_answer read = ledger_read_number(out, sizeof out, 0);
+    EXPECT(read.refusal == 0 && read.value == UINT64_C(34359738367) && read.next == 5);
+    read = ledger_read_number((const uint8_t *)"\xFF\xFF\xFF\xFF\x10", 5, 0);
+    EXPECT(read.refusal == 0 && read.value == UINT64_C(4563402751) && read.next == 5);
+    read = ledger_read_number((const uint8_t *)"\x80\x80\x80\x80\x80", 5, 0);
+    EXPECT(read.refusal == LEDGER_BAD_NUMBER && read.value == 0 && read.next == 0);
+    return 0;
+}
+
 /* A digest has as many bytes as a link, and the longest message is digested. */
 static int digests(void) {
     static uint8_t message[LEDGER_MESSAGE_BYTES + 1];
@@ -91,6 +110,39 @@ static int blocks(void) {
     EXPECT(memcmp(out, "slot\x80\x02", 6) == 0 && memcmp(out, LEDGER_SLOT_LETTERS, sizeof LEDGER_SLOT_LETTERS - 1) == 0);
     EXPECT(sizeof LEDGER_SLOT_LETTERS - 1 == LEDGER_SLOT_LETTERS_BYTES && sizeof LEDGER_BLOCK_LETTERS - 1 == LEDGER_BLOCK_LETTERS_BYTES);
     EXPECT(ledger_slot_text((ledger_slot){0}, out, sizeof out).refusal == LEDGER_BAD_CLOCK);
+    return 0;
+}
+
+/* Both releases of an order have 35 bits. One above the largest is refused within the count, and behind it is not looked at. */
+static int large_releases(void) {
+    const ledger_order large = {.display = 2, .expected = LEDGER_LARGEST + 1, .new_release = UINT64_MAX};
+    uint8_t out[LEDGER_BLOCK_BYTES];
+    ledger_block block = block_after((const uint8_t *)"abc", 3, 9, UINT64_C(1) << 32);
+    block.front.orders.list[0].new_release = LEDGER_LARGEST;
+    ledger_write_answer written = ledger_write_block(block, 0, out, sizeof out);
+    EXPECT(written.refusal == 0 && written.next == 173);
+    EXPECT(memcmp(out + 32, "\x01\x02\x80\x80\x80\x80\x10\xFF\xFF\xFF\xFF\x7F\x09", 13) == 0);
+    ledger_block_answer read = ledger_read_block(out, sizeof out, 0);
+    EXPECT(read.refusal == 0 && read.next == 173 && same_block(&read.block, &block));
+    block.front.orders.list[1] = large;
+    EXPECT(ledger_write_block(block, 0, out, sizeof out).next == 173);
+    block.front.orders.list[0].new_release = LEDGER_LARGEST + 1;
+    EXPECT(ledger_write_block(block, 0, out, sizeof out).refusal == LEDGER_OUT_OF_RANGE);
+    block.front.orders.list[0] = (ledger_order){.display = 2, .expected = LEDGER_LARGEST + 1, .new_release = 1};
+    EXPECT(ledger_write_block(block, 0, NULL, 0).refusal == LEDGER_OUT_OF_RANGE);
+    return 0;
+}
+
+/* Display 63 starts at the largest release: the table, the check and the report tell it. */
+static int a_large_start(void) {
+    const uint64_t releases[LEDGER_DISPLAYS] = {[63] = LEDGER_LARGEST};
+    const uint8_t key[LEDGER_KEY_BYTES] = {0};
+    const ledger_slot now = {1};
+    uint8_t genesis[LEDGER_GENESIS_BYTES];
+    size_t length = ledger_write_genesis(1, 0, 1, releases, key, sizeof key, genesis).length;
+    EXPECT(length == 3 + 63 + 5 + 32 && ledger_read_genesis(genesis, length).table.releases[63] == LEDGER_LARGEST);
+    EXPECT(ledger_check(genesis, length, now, NULL, 0, NULL, 0).releases[63] == LEDGER_LARGEST);
+    EXPECT(ledger_report(genesis, length, now, NULL, 0, 0).releases[63] == LEDGER_LARGEST);
     return 0;
 }
 
@@ -170,6 +222,28 @@ static int issues(const struct chain *c) {
     issued = ledger_append(c->genesis, c->genesis_length, now, held, sizeof held, c->length, pool, 2, first, second);
     EXPECT(issued.refusal == 0 && issued.place.number == 0 && issued.length == c->length + 102 + 64);
     EXPECT(memcmp(held + c->length, draft, 102) == 0 && held[issued.length - 1] == 0xB1 && held[issued.length] == FILLER);
+    return 0;
+}
+
+/* A release above the largest: 5 where it is offered, 18 in the pool; past the count it does no harm, and there zeros are answered. */
+static int large_orders(const struct chain *c) {
+    const ledger_slot now = {20};
+    const uint8_t *genesis = c->genesis;
+    const size_t n = c->genesis_length;
+    ledger_pool pool;
+    memset(&pool, 0, sizeof pool);
+    ledger_order order = {.display = 2, .expected = 42, .new_release = LEDGER_LARGEST + 1};
+    ledger_pool_answer pooled = ledger_pool_order(genesis, n, now, c->bytes, sizeof c->bytes, c->length, pool, order);
+    EXPECT(pooled.refusal == LEDGER_OUT_OF_RANGE && pooled.place.number == 0 && same_pool(&pooled.pool, &pool));
+    order.new_release = LEDGER_LARGEST;
+    pool.entries[7].order.expected = LEDGER_LARGEST + 1;
+    pooled = ledger_pool_order(genesis, n, now, c->bytes, sizeof c->bytes, c->length, pool, order);
+    EXPECT(pooled.refusal == 0 && pooled.pool.count == 1 && same_order(pooled.pool.entries[0].order, order));
+    EXPECT(pooled.pool.entries[7].order.expected == 0);
+    pool = pooled.pool;
+    pool.entries[0].order.new_release = LEDGER_LARGEST + 1;
+    pooled = ledger_pool_order(genesis, n, now, c->bytes, sizeof c->bytes, c->length, pool, order);
+    EXPECT(pooled.refusal == LEDGER_BAD_POOL && same_pool(&pooled.pool, &pool));
     return 0;
 }
 
@@ -258,7 +332,9 @@ static int nothing_held(const struct chain *c) {
 int main(void) {
     struct chain chain;
     chain_of(&chain);
-    const int lines[] = {numbers(),      digests(),       tables(),       blocks(),                  checks(&chain),      adopts(&chain),
-                         issues(&chain), reports(&chain), nothing_lent(), nothing_delivered(&chain), nothing_held(&chain)};
+    const int lines[] = {numbers(),        large_numbers(), digests(),            tables(),        blocks(),
+                         large_releases(), a_large_start(), checks(&chain),       adopts(&chain),  issues(&chain),
+                         nothing_lent(),   reports(&chain), large_orders(&chain), nothing_delivered(&chain),
+                         nothing_held(&chain)};
     return exit_status("every_call.c", lines, sizeof lines / sizeof *lines);
 }

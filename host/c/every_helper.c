@@ -64,7 +64,7 @@ static void make_station(void) {
 static int a_genesis(void) {
     uint8_t out[LEDGER_GENESIS_BYTES];
     const uint8_t expected[99] = {1, 0, 1, 7}, key[LEDGER_KEY_BYTES] = {0};
-    uint32_t releases[LEDGER_DISPLAYS] = {7};
+    uint64_t releases[LEDGER_DISPLAYS] = {7};
     memset(out, FILLER, sizeof out);
     ledger_made_genesis made = ledger_write_genesis(1, 0, 1, releases, key, sizeof key, out);
     EXPECT(made.broken == NULL && made.length == 99 && memcmp(out, expected, 99) == 0 && out[99] == FILLER);
@@ -76,15 +76,15 @@ static int a_genesis(void) {
 static int the_longest_genesis(void) {
     static uint8_t most[LEDGER_CONTROLLERS][LEDGER_KEY_BYTES];
     uint8_t out[LEDGER_GENESIS_BYTES];
-    uint32_t releases[LEDGER_DISPLAYS];
+    uint64_t releases[LEDGER_DISPLAYS];
     for (int i = 0; i < LEDGER_DISPLAYS; i++)
-        releases[i] = UINT32_MAX;
+        releases[i] = LEDGER_LARGEST;
     memset(most, 0x4B, sizeof most);
     ledger_made_genesis made = ledger_write_genesis(31, 10, 64, releases, most[0], sizeof most, out);
     EXPECT(made.broken == NULL && made.length == 3 + 64 * 5 + 31 * 32);
     ledger_genesis_answer read = ledger_read_genesis(out, made.length);
     EXPECT(read.refusal == 0 && read.table.n == 31 && read.table.t == 10 && read.table.u == 64);
-    EXPECT(read.table.releases[0] == UINT32_MAX && read.table.releases[63] == UINT32_MAX && out[read.table.keys_at] == 0x4B);
+    EXPECT(read.table.releases[0] == LEDGER_LARGEST && read.table.releases[63] == LEDGER_LARGEST && out[read.table.keys_at] == 0x4B);
     return 0;
 }
 
@@ -92,7 +92,7 @@ static int the_longest_genesis(void) {
 static int a_branch_station(void) {
     uint8_t out[LEDGER_GENESIS_BYTES];
     const uint8_t four_keys[4 * LEDGER_KEY_BYTES] = {0};
-    const uint32_t releases[LEDGER_DISPLAYS] = {0};
+    const uint64_t releases[LEDGER_DISPLAYS] = {0};
     ledger_made_genesis made = ledger_write_genesis(4, 1, 1, releases, four_keys, sizeof four_keys, out);
     EXPECT(made.broken == NULL && made.length == 3 + 64 + 4 * 32);
     ledger_genesis_answer read = ledger_read_genesis(out, made.length);
@@ -104,7 +104,7 @@ static int a_branch_station(void) {
 static int no_genesis(void) {
     static const uint8_t any_keys[32 * LEDGER_KEY_BYTES];
     uint8_t out[LEDGER_GENESIS_BYTES];
-    const uint32_t releases[LEDGER_DISPLAYS] = {0};
+    const uint64_t releases[LEDGER_DISPLAYS] = {0};
     const struct {
         uint32_t n, t, u;
         size_t keys_length;
@@ -130,6 +130,20 @@ static int no_genesis(void) {
     return 0;
 }
 
+/* A release above the largest, at any display. Nothing is written then. */
+static int no_large_release(void) {
+    const uint8_t key[LEDGER_KEY_BYTES] = {0};
+    uint8_t out[LEDGER_GENESIS_BYTES];
+    memset(out, FILLER, sizeof out);
+    for (int i = 0; i < LEDGER_DISPLAYS; i++) {
+        uint64_t releases[LEDGER_DISPLAYS] = {0};
+        releases[i] = i % 2 == 0 ? LEDGER_LARGEST + 1 : UINT64_MAX;
+        ledger_made_genesis made = ledger_write_genesis(1, 0, 1, releases, key, sizeof key, out);
+        EXPECT(made.broken != NULL && strcmp(made.broken, "a release is above 34359738367") == 0 && made.length == 0 && out[0] == FILLER);
+    }
+    return 0;
+}
+
 /* A rule is broken exactly if the proved call refuses: for every cut, one byte more, and every value of each of the first four bytes. */
 static int broken_rules(void) {
     uint8_t bytes[LEDGER_GENESIS_BYTES + 1] = {0};
@@ -147,6 +161,32 @@ static int broken_rules(void) {
         }
     memcpy(bytes, "\x06\x01\x05\x80\x00", 5);
     EXPECT(strcmp(ledger_broken_rule(bytes, genesis_length), "a number is not in its shortest form, or too large") == 0);
+    memcpy(bytes, "\x06\x01\x05\xFF\xFF\xFF\xFF\xFF", 8);
+    EXPECT(strcmp(ledger_broken_rule(bytes, genesis_length), "a number is not in its shortest form, or too large") == 0);
+    return 0;
+}
+
+/* Numbers of more than 32 bits: n, t and u that wrap into their ranges break a rule, and a release does not. */
+static int wide_numbers(void) {
+    const struct {
+        const char *head;
+        const char *broken;
+    } cases[] = {
+        {"\x86\x80\x80\x80\x10\x01\x05", "n is not 1 to 31"},
+        {"\x06\x81\x80\x80\x80\x10\x05", "n is below 3t + 1"},
+        {"\x06\x01\x85\x80\x80\x80\x10", "u is not 1 to 64"},
+    };
+    uint8_t bytes[LEDGER_GENESIS_BYTES];
+    for (size_t i = 0; i < sizeof cases / sizeof *cases; i++) {
+        memcpy(bytes, cases[i].head, 7);
+        memcpy(bytes + 7, genesis + 3, genesis_length - 3);
+        EXPECT(strcmp(ledger_broken_rule(bytes, genesis_length + 4), cases[i].broken) == 0);
+        EXPECT(ledger_read_genesis(bytes, genesis_length + 4).refusal == LEDGER_BAD_GENESIS);
+    }
+    memcpy(bytes, "\x06\x01\x05\xFF\xFF\xFF\xFF\x10", 8);
+    memcpy(bytes + 8, genesis + 4, genesis_length - 4);
+    EXPECT(ledger_broken_rule(bytes, genesis_length + 4) == NULL);
+    EXPECT(ledger_read_genesis(bytes, genesis_length + 4).table.releases[0] == UINT64_C(4563402751));
     return 0;
 }
 
@@ -338,8 +378,8 @@ static int names(void) {
 
 int main(void) {
     make_station();
-    const int lines[] = {a_genesis(),       the_longest_genesis(), a_branch_station(), no_genesis(),        broken_rules(),
-                         good_verdicts(),   nothing_in_vain(),     a_bad_signature(),  adoptions(),         the_longest_chain(),
-                         part_of_a_block(), flipped_bits(),        stored_chains(),    an_issued_block(),   names()};
+    const int lines[] = {a_genesis(),       the_longest_genesis(), a_branch_station(), no_genesis(),      no_large_release(), broken_rules(),
+                         wide_numbers(),    good_verdicts(),       nothing_in_vain(),  a_bad_signature(), adoptions(),        the_longest_chain(),
+                         part_of_a_block(), flipped_bits(),        stored_chains(),    an_issued_block(), names()};
     return exit_status("every_helper.c", lines, sizeof lines / sizeof *lines);
 }

@@ -3,21 +3,30 @@
 
 #include <string.h>
 
-/* The limits of n, t and u. */
-static const char *broken_limit(uint32_t n, uint32_t t, uint32_t u) {
+/* The limits of n, t and u, which have at most 35 bits: 3t + 1 is no more than 64 bits hold. */
+static const char *broken_limit(uint64_t n, uint64_t t, uint64_t u) {
     if (n < 1 || n > LEDGER_CONTROLLERS)
         return "n is not 1 to 31";
-    if (n < 3 * (uint64_t)t + 1)
+    if (n < 3 * t + 1)
         return "n is below 3t + 1";
     if (u < 1 || u > LEDGER_POOL_SLOTS)
         return "u is not 1 to 64";
     return NULL;
 }
 
-ledger_made_genesis ledger_write_genesis(uint32_t n, uint32_t t, uint32_t u, const uint32_t releases[LEDGER_DISPLAYS], const uint8_t *keys,
+static bool releases_fit(const uint64_t releases[LEDGER_DISPLAYS]) {
+    for (int i = 0; i < LEDGER_DISPLAYS; i++)
+        if (releases[i] > LEDGER_LARGEST)
+            return false;
+    return true;
+}
+
+ledger_made_genesis ledger_write_genesis(uint32_t n, uint32_t t, uint32_t u, const uint64_t releases[LEDGER_DISPLAYS], const uint8_t *keys,
                                          size_t keys_length, uint8_t out[LEDGER_GENESIS_BYTES]) {
     const uint32_t head[3] = {n, t, u};
     ledger_made_genesis made = {broken_limit(n, t, u), 0};
+    if (made.broken == NULL && !releases_fit(releases))
+        made.broken = "a release is above 34359738367";
     if (made.broken == NULL && keys_length != (size_t)n * LEDGER_KEY_BYTES)
         made.broken = "the keys are not 32 bytes for each controller";
     if (made.broken != NULL)
@@ -32,7 +41,7 @@ ledger_made_genesis ledger_write_genesis(uint32_t n, uint32_t t, uint32_t u, con
 }
 
 const char *ledger_broken_rule(const uint8_t *genesis, size_t genesis_length) {
-    uint32_t head[3] = {0, 0, 0};
+    uint64_t head[3] = {0, 0, 0};
     size_t at = 0;
     for (int i = 0; i < 3 + LEDGER_DISPLAYS; i++) {
         ledger_number_answer read = ledger_read_number(genesis, genesis_length, at);
@@ -179,7 +188,7 @@ static const struct {
     {"BAD_CLOCK", "the slot is not 1 to 256"},
     {"CUT", "a block or a number is cut"},
     {"BAD_NUMBER", "a number is badly written: not in its shortest form, or too large"},
-    {"OUT_OF_RANGE", "a count, a display or a slot is out of its range"},
+    {"OUT_OF_RANGE", "a count, a display, a release or a slot is out of its range"},
     {"BAD_STAMP", "a block's slot is not above the one before it; to be issued: the held chain already has a block of this slot"},
     {"LATE_STAMP", "a delivered block's slot is not below the clock's"},
     {"BAD_VERDICT", "a block's signatures do not verify, or nobody said whether they do"},

@@ -16,11 +16,11 @@ extern "C" {
 
 /* The most that the helpers take of the stack, in bytes, compiled by gcc 12 at any level. A callback is called with at most LEDGER_STACK_CALLBACK
    bytes of it in use; what it takes itself comes on top of these. */
-#define LEDGER_STACK_VERDICTS (LEDGER_STACK_CHOOSE + 2048)
-#define LEDGER_STACK_ADOPT_VERIFIED (LEDGER_STACK_ADOPT + 2048)
+#define LEDGER_STACK_VERDICTS (LEDGER_STACK_CHOOSE + 2816)
+#define LEDGER_STACK_ADOPT_VERIFIED (LEDGER_STACK_ADOPT + 2816)
 #define LEDGER_STACK_CHAIN_VERIFIES (LEDGER_STACK_FIND_KEY + 2048)
-#define LEDGER_STACK_ISSUE (LEDGER_STACK_APPEND + 2048)
-#define LEDGER_STACK_CALLBACK 2560
+#define LEDGER_STACK_ISSUE (LEDGER_STACK_APPEND + 2816)
+#define LEDGER_STACK_CALLBACK 2816
 
 /* Whether a signature verifies over a text under a key. This is the host's own, the same on all controllers. `context` is what the caller gave. */
 typedef bool (*ledger_verify)(void *context, const uint8_t key[LEDGER_KEY_BYTES], const uint8_t *text, size_t text_length,
@@ -36,7 +36,7 @@ typedef struct {
 
 /* Writes the genesis of n controllers, of whom t may be faulty, and u slots that an order stays pooled. The keys are 32 bytes for each
    controller, end to end, from controller 1 on. Where a rule is broken nothing is written. */
-ledger_made_genesis ledger_write_genesis(uint32_t n, uint32_t t, uint32_t u, const uint32_t releases[LEDGER_DISPLAYS], const uint8_t *keys,
+ledger_made_genesis ledger_write_genesis(uint32_t n, uint32_t t, uint32_t u, const uint64_t releases[LEDGER_DISPLAYS], const uint8_t *keys,
                                          size_t keys_length, uint8_t out[LEDGER_GENESIS_BYTES]);
 
 /* The rule that genesis bytes break, in words: what stands behind LEDGER_BAD_GENESIS. NULL exactly if ledger_read_genesis accepts them. */

@@ -50,7 +50,7 @@ static void deliver(ledger_slot now) {
     printf("slot %" PRIu32 ": adopts %zu bytes and holds %" PRIu32 " blocks\n", now.number, adopted.length, adopted.count.number);
 }
 
-static ledger_pool_answer offer(controller *to, ledger_slot now, uint32_t expected, uint32_t new_release) {
+static ledger_pool_answer offer(controller *to, ledger_slot now, uint64_t expected, uint64_t new_release) {
     ledger_order order = {.display = DISPLAY, .expected = expected, .new_release = new_release};
     ledger_pool_answer pooled = ledger_pool_order(genesis, genesis_length, now, to->held, sizeof to->held, to->length, to->pool, order);
     to->pool = pooled.pool;

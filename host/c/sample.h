@@ -8,7 +8,7 @@
 
 /* A genesis of n = 6, t = 1 and u = 5, with display 2 at release 40: its length. */
 static inline size_t genesis_of(uint8_t out[LEDGER_GENESIS_BYTES]) {
-    const uint32_t releases[LEDGER_DISPLAYS] = {[2] = 40};
+    const uint64_t releases[LEDGER_DISPLAYS] = {[2] = 40};
     uint8_t keys[6][LEDGER_KEY_BYTES];
     for (uint8_t i = 0; i < 6; i++)
         memset(keys[i], i + 1, LEDGER_KEY_BYTES);
@@ -16,7 +16,7 @@ static inline size_t genesis_of(uint8_t out[LEDGER_GENESIS_BYTES]) {
 }
 
 /* A block at a slot that takes display 2 one release on, with the digest of the bytes before it as its link. */
-static inline ledger_block block_after(const uint8_t *before, size_t length, uint32_t slot, uint32_t release) {
+static inline ledger_block block_after(const uint8_t *before, size_t length, uint32_t slot, uint64_t release) {
     ledger_block block;
     memset(&block, 0, sizeof block);
     memcpy(block.front.link, ledger_digest(before, length).digest, LEDGER_LINK_BYTES);

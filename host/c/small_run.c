@@ -34,13 +34,13 @@ static void deliver(controller *to, const controller *from, ledger_slot now) {
 }
 
 /* The pool that comes back takes the old one's place. */
-static void offer(controller *to, ledger_slot now, uint32_t expected, uint32_t new_release) {
+static void offer(controller *to, ledger_slot now, uint64_t expected, uint64_t new_release) {
     ledger_order order = {.display = DISPLAY, .expected = expected, .new_release = new_release};
     ledger_pool_answer pooled = ledger_pool_order(genesis, genesis_length, now, to->held, sizeof to->held, to->length, to->pool, order);
     accepted("pool", pooled.refusal, pooled.place);
     to->pool = pooled.pool;
     line(to, now);
-    printf("pools display %d from %" PRIu32 " to %" PRIu32 "\n", DISPLAY, expected, new_release);
+    printf("pools display %d from %" PRIu64 " to %" PRIu64 "\n", DISPLAY, expected, new_release);
 }
 
 /* A controller whose turn it is signs the two texts and appends its block. Then a host stores the block, and after that sends the chain, as
@@ -59,7 +59,7 @@ static ledger_report_answer report(const controller *c, ledger_slot now) {
     ledger_report_answer told = ledger_report(genesis, genesis_length, now, c->held, sizeof c->held, c->length);
     accepted("report", told.refusal, told.place);
     line(c, now);
-    printf("reports %" PRIu32 " held, %" PRIu32 " settled, display %d is to boot %" PRIu32 "\n", told.held.number, told.settled.number, DISPLAY,
+    printf("reports %" PRIu32 " held, %" PRIu32 " settled, display %d is to boot %" PRIu64 "\n", told.held.number, told.settled.number, DISPLAY,
            told.releases[DISPLAY]);
     return told;
 }

@@ -3,32 +3,31 @@
 -- Assumes nothing.
 use mathlib.Core.Path.{_≡_, sym, ap, _∙_, subst}
 use mathlib.Core.Bool.{Bool, true}
-use mathlib.Core.List.{List, [], _∷_}
+use mathlib.Core.List.{List}
 use Prim.Native.Nat.{ℕ, _+_, _-_, _≤_, zero-le}
 use native.Mathlib.Omega.{arith}
-use lib.Dec.{leb}
 use lib.ListN.{length, replicate}
 use lib.Seq.{length-take-le, take-append-seam}
 use borrow.Author.Tests.{le-leb}
 use Rattle.laws.specs.Told.{Told, gives, Found, found}
 use Rattle.laws.specs.Bytes.{part}
-use Rattle.laws.specs.Every.{both, within, every}
+use Rattle.laws.specs.Every.{every}
 use Rattle.laws.specs.Tabulate.{Tailed}
 use Rattle.laws.specs.Placed.{placed, placedIf, placingIf}
-use Rattle.laws.specs.Format.{Bytes, Each}
+use Rattle.laws.specs.Format.{Bytes}
 use Rattle.laws.proofs.Told.{unless-gives}
-use Rattle.laws.proofs.Every.{both-true, within-true, within-here}
-use Rattle.laws.proofs.Each.{each-take, each-weaker, each-every}
+use Rattle.laws.proofs.Every.{within-true, within-here}
+use Rattle.laws.proofs.Each.{every-each, each-every}
 use Rattle.laws.proofs.Tabulate.{tailed-is}
 use Rattle.laws.proofs.Calls.{placed-reads-back, read-is-placed}
-use Rattle.order.specs.declared.Order.{Order}
-use Rattle.block.specs.Block.{Parts, blockAt, blockBytes, OrderFits, Fits}
+use Rattle.order.specs.Order.{orderInRange}
+use Rattle.block.specs.Block.{Parts, blockAt, blockBytes, Fits}
 use Rattle.block.specs.Answers.{noOrder, unlisted}
-use Rattle.block.specs.Blocks.{partsIn, blockIn, blockOf, knownDisplay, frontFits}
-use Rattle.block.specs.Typed.{Writable, Typed}
+use Rattle.block.specs.Blocks.{partsIn, blockIn, blockOf, frontFits}
+use Rattle.block.specs.Typed.{Typed}
 use Rattle.block.specs.declared.Block.{Block}
 use Rattle.block.proofs.RoundTrip.{block-inverse}
-use Rattle.block.proofs.Lists.{few}
+use Rattle.block.proofs.Lists.{range-parts, few}
 
 abbrev pub answers : Block → List ℕ → ℕ → Told ℕ
 answers block out at = placedIf (frontFits (block .front)) 5 out at (blockBytes (partsIn block))
@@ -37,24 +36,16 @@ abbrev pub leaves : Block → List ℕ → ℕ → List ℕ
 leaves block out at = placingIf (frontFits (block .front)) out at (blockBytes (partsIn block))
 
 -- ---- what the write judges of a block, and what a block's parts are to fit
-pub fit-orders : (l : List Order) → every knownDisplay l ≡ true → Each Writable l → Each OrderFits l
-fit-orders [] known each = tt
-fit-orders (o ∷ l) known (here, rest) =
-    let (shown, more) = both-true (knownDisplay o) (every knownDisplay l) known in
-    ((shown, here .0, here .1), fit-orders l more rest)
-
 fit-parts : (b : Block) → Typed b → frontFits (b .front) ≡ true → Fits (partsIn b)
 fit-parts b typed fine =
     let o = b .front .orders in
-    let few-orders = few o (b .front .slot .0) fine in
-    let (_, judged) = both-true (leb (o .count) 8) _ fine in
-    let (known, stamp) = both-true (every knownDisplay (unlisted o)) (within 1 256 (b .front .slot .0)) judged in
+    let (few-orders, ranged, stamp) = range-parts o (b .front .slot .0) fine in
     let size : length (unlisted o) ≡ o .count = length-take-le (o .count) (o .list) (omega (arith, typed .list-size)) in
     record {
       link-size = typed .link-size;
       link-bytes = typed .link-bytes;
       count = within-here 0 8 (length (unlisted o)) zero-le (omega arith);
-      orders = fit-orders (unlisted o) known (each-take Writable (o .count) (o .list) (typed .releases));
+      orders = every-each orderInRange (unlisted o) ranged;
       slot = stamp;
       slot-signature-size = typed .slot-signature-size;
       slot-signature-bytes = typed .slot-signature-bytes;
@@ -65,9 +56,9 @@ fit-parts b typed fine =
 parts-fit : (p : Parts) → Fits p → frontFits (blockIn p .front) ≡ true
 parts-fit p fits =
     let (_, most) = within-true 0 8 (length (p .orders)) (fits .count) in
-    let known : every knownDisplay (unlisted (blockIn p .front .orders)) ≡ true =
-    ap (every knownDisplay) (take-append-seam (p .orders) _) ∙ each-every knownDisplay (p .orders) (each-weaker (λ o fine. fine .0) (p .orders) (fits .orders)) in
-    rw (le-leb (length (p .orders)) 8 most, known) (fits .slot)
+    let ranged : every orderInRange (unlisted (blockIn p .front .orders)) ≡ true =
+    ap (every orderInRange) (take-append-seam (p .orders) _) ∙ each-every orderInRange (p .orders) (fits .orders) in
+    rw (le-leb (length (p .orders)) 8 most, ranged) (fits .slot)
 
 parts-back : (p : Parts) → partsIn (blockIn p) ≡ p
 parts-back p = λ i. record {

@@ -12,12 +12,13 @@ use Rattle.number.specs.Number.{written}
 use Rattle.number.proofs.Written.{at-most-five, shortest, at-least-one, two-groups}
 use Rattle.order.specs.Order.{lastDisplay}
 use Rattle.order.specs.declared.Order.{Order}
+use Rattle.order.proofs.Validity.{range-parts}
 use Rattle.block.specs.Block.{Parts, orderBytes, ordersBytes, frontBytes, blockBytes, OrderFits, Fits}
 use Rattle.block.proofs.Lists.{order-size}
 
 order-bytes : (o : Order) → OrderFits o → (3 ≤ length (orderBytes o)) × (length (orderBytes o) ≤ 11)
 order-bytes o fits =
-    let (low, high) = within-true 0 lastDisplay (o .display) (fits .0) in
+    let (low, high) = within-true 0 lastDisplay (o .display) (range-parts o fits .0) in
     let size = order-size o in
     let display = shortest (o .display) (omega arith) in (
       omega (arith, size, display, at-least-one (o .expected), at-least-one (o .new)),

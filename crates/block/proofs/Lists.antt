@@ -1,13 +1,13 @@
 -- Orders as the code holds them, a count and a list of eight: their bytes, order by order.
 -- Assumes nothing.
-use mathlib.Core.Path.{_≡_, refl, ap, _∙_}
+use mathlib.Core.Path.{_≡_, refl, sym, ap, _∙_}
 use mathlib.Core.List.{List, _++_}
 use Prim.Native.Nat.{ℕ, _+_, _<_, _≤_}
 use native.Mathlib.Omega.{arith}
 use native.Mathlib.Numerals.{add-one}
 use lib.ListN.{length, take, getD, length-append}
 use lib.Seq.{length-take-le}
-use mathlib.Core.Bool.{true}
+use mathlib.Core.Bool.{Bool, true, false}
 use lib.Dec.{leb}
 use borrow.Author.Tests.{leb-true}
 use Rattle.laws.specs.Every.{both, within, every}
@@ -15,14 +15,15 @@ use Rattle.laws.proofs.Every.{both-true}
 use Rattle.laws.specs.Bytes.{joined}
 use Rattle.laws.specs.Placed.{Room, Wrote}
 use Rattle.laws.proofs.Placed.{wrote-length, wrote-then}
-use Rattle.laws.proofs.Taken.{joined-more, joined-less}
+use Rattle.laws.proofs.Taken.{every-fails, joined-more, joined-less}
 use Rattle.number.specs.Number.{written}
 use Rattle.number.proofs.Written.{at-most-five}
+use Rattle.order.specs.Order.{orderInRange}
 use Rattle.order.specs.declared.Order.{Order}
 use Rattle.block.specs.declared.reading.Orders.{Orders}
 use Rattle.block.specs.Block.{orderBytes, ordersBytes, frontBytes, blockBytes}
 use Rattle.block.specs.Answers.{noOrder, unlisted}
-use Rattle.block.specs.Blocks.{partsIn, knownDisplay, inRange, frontOf}
+use Rattle.block.specs.Blocks.{partsIn, inRange, frontOf}
 use Rattle.block.specs.declared.Block.{Block}
 use Rattle.block.specs.declared.Front.{Front}
 
@@ -66,9 +67,24 @@ module _ (o : Orders) (few : o .count ≤ 8) (whole : length (o .list) ≡ 8) wh
         → Wrote between place (orderBytes (getD (o .list) i noOrder)) next later → Wrote out at (begun o (i + 1)) next later
     wrote-more before after = rw begun-more (wrote-then (begun o i) (orderBytes (getD (o .list) i noOrder)) before after)
 
--- orders in their range are at most eight
+-- orders and a slot in their ranges: at most eight orders, each in its own
+pub range-parts : (o : Orders) (slot : ℕ) → inRange o slot ≡ true → (o .count ≤ 8) × (every orderInRange (unlisted o) ≡ true) × (within 1 256 slot ≡ true)
+range-parts o slot e =
+    let (few, rest) = both-true (leb (o .count) 8) (both (every orderInRange (unlisted o)) (within 1 256 slot)) e in
+    let (orders, stamp) = both-true (every orderInRange (unlisted o)) (within 1 256 slot) rest in
+    (leb-true _ _ few, orders, stamp)
+
+-- and so the one at a place of the list
+pub range-at : (o : Orders) (i : ℕ) → every orderInRange (unlisted o) ≡ true → i < o .count → i < length (o .list)
+    → orderInRange (getD (o .list) i noOrder) ≡ true
+range-at o i all counted inside = by-test (orderInRange (getD (o .list) i noOrder)) refl
+  where
+    by-test : (β : Bool) → orderInRange (getD (o .list) i noOrder) ≡ β → β ≡ true
+    by-test true is = refl
+    by-test false is = sym (every-fails orderInRange (o .list) (o .count) i noOrder inside counted is) ∙ all
+
 pub few : (o : Orders) (slot : ℕ) → inRange o slot ≡ true → o .count ≤ 8
-few o slot e = leb-true _ _ (both-true (leb (o .count) 8) (both (every knownDisplay (unlisted o)) (within 1 256 slot)) e .0)
+few o slot e = range-parts o slot e .0
 
 pub front-size : (f : Front) → length (f .link) ≡ 32 → length (f .«slot_signature») ≡ 64
     → length (frontOf f) ≡ 32 + (length (ordersBytes (unlisted (f .orders))) + (length (written (f .slot .0)) + 64))

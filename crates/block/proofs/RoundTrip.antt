@@ -18,6 +18,7 @@ use Rattle.laws.proofs.Formats.{fixed-bytes, tested, sequence, several, revalid
 use Rattle.number.specs.Number.{largest, written, numberAt}
 use Rattle.number.proofs.RoundTrip.{number-inverse}
 use Rattle.order.specs.declared.Order.{Order}
+use Rattle.order.proofs.Validity.{range-parts, in-its-range}
 use Rattle.block.specs.Block.{Parts, numberIn, orderAt, ordersAt, blockAt, orderBytes, ordersBytes, frontBytes, blockBytes, OrderFits, Fits}
 
 -- a number in its range
@@ -47,8 +48,8 @@ in-range most v small e = let (low, high) = within-true 0 most v e in omega arit
 
 order-inverse : Inverse OrderFits orderBytes orderAt
 order-inverse =
-    revalid (reread order-nested orderAt (λ s at. simp then-assoc)) OrderFits (λ o fine. (fine .0 .1, fine .1 .0, fine .1 .1))
-    (λ o fine. ((in-range 63 (o .display) (lit≤ tt) (fine .0), fine .0), (fine .1, fine .2)))
+    revalid (reread order-nested orderAt (λ s at. simp then-assoc)) OrderFits (λ o fine. in-its-range o (fine .0 .1) (fine .1 .0) (fine .1 .1))
+    (λ o fine. let (known, expected, new) = range-parts o fine in ((in-range 63 (o .display) (lit≤ tt) known, known), (expected, new)))
 
 -- ---- the orders: how many, and each
 abbrev OrdersFit : List Order → Type 0

@@ -3,18 +3,15 @@
 use mathlib.Core.Path.{_≡_, sym, _∙_}
 use mathlib.Core.List.{List, [], _∷_, map}
 use Prim.Native.Nat.{ℕ}
-use native.Mathlib.Omega.{arith}
 use lib.ListN.{length-map}
 use mir.Val.{Val}
 use denote.Laws.{Is}
 use denote.Array.{each}
 use denote.Shadow.{shadow}
 use denote.Struct.Field.{u8-field}
-use Rattle.laws.specs.Format.{Bytes, Each}
+use Rattle.laws.specs.Format.{Bytes}
 use Rattle.laws.proofs.Bytes.{bytes-nil, bytes-cons}
-use Rattle.order.specs.declared.Order.{Order}
-use Rattle.order.proofs.Order as order
-use Rattle.block.specs.Typed.{Writable, Typed}
+use Rattle.block.specs.Typed.{Typed}
 use Rattle.block.specs.declared.Block.{Block}
 use Rattle.block.proofs.Block as block
 
@@ -22,15 +19,6 @@ bytes-of : (xs : List ℕ) (us : List Val) → shadow (each ℕ (u8-field .row .
 bytes-of [] us here = bytes-nil
 bytes-of (x ∷ xs) [] here = absurd here
 bytes-of (x ∷ xs) (u ∷ us) (here, rest) = bytes-cons x xs (here .1) (bytes-of xs us rest)
-
-writable : (o : Order) (us : List Val) → Is order.the-row o us → Writable o
-writable o us is = (omega (arith, is .1 .1 .1 .0 .1), omega (arith, is .1 .1 .1 .1 .0 .1))
-
-releases-of : (l : List Order) (us : List Val) → shadow (each (order.the-field .row .Denot) (order.the-field .row .own) (map (order.the-field .into) l) us)
-    → Each Writable l
-releases-of [] us here = tt
-releases-of (o ∷ l) [] here = absurd here
-releases-of (o ∷ l) (u ∷ us) (here, rest) = (writable o (u ∷ []) here, releases-of l us rest)
 
 pub every-block-that-the-code-holds-is-typed : (b : Block) (vs : List Val) → Is block.the-row b vs → Typed b
 every-block-that-the-code-holds-is-typed b vs is =
@@ -44,7 +32,6 @@ every-block-that-the-code-holds-is-typed b vs is =
       link-size = sym (length-map (b .front .link) _) ∙ link .1 .0 .1;
       link-bytes = bytes-of (b .front .link) (link .0) (link .1 .1);
       list-size = sym (length-map (b .front .orders .list) _) ∙ list .1 .0 .1;
-      releases = releases-of (b .front .orders .list) (list .0) (list .1 .1);
       slot-signature-size = sym (length-map (b .front .«slot_signature») _) ∙ slot-signature .1 .0 .1;
       slot-signature-bytes = bytes-of (b .front .«slot_signature») (slot-signature .0) (slot-signature .1 .1);
       block-signature-size = sym (length-map (b .«block_signature») _) ∙ block-signature .1 .0 .1;

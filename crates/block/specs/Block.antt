@@ -1,7 +1,7 @@
 -- 01, "Orders, blocks, chains": "A block is: 32 bytes of link, the number of orders (0 to 8), the orders (three numbers each), the slot (1 to 256),
 -- 64 bytes of slot signature, 64 bytes of block signature."
 -- Assumes nothing.
-use Prim.Native.Nat.{ℕ, _≤_}
+use Prim.Native.Nat.{ℕ}
 use mathlib.Core.Path.{_≡_}
 use mathlib.Core.Bool.{true}
 use mathlib.Core.List.{List, _++_}
@@ -11,8 +11,8 @@ use Rattle.laws.specs.Every.{within}
 use Rattle.laws.specs.Bytes.{bytesAt, joined}
 use Rattle.laws.specs.Repeated.{repeated}
 use Rattle.laws.specs.Format.{Bytes, Each}
-use Rattle.number.specs.Number.{largest, written, numberAt}
-use Rattle.order.specs.Order.{lastDisplay}
+use Rattle.number.specs.Number.{written, numberAt}
+use Rattle.order.specs.Order.{lastDisplay, orderInRange}
 use Rattle.order.specs.declared.Order.{Order}
 
 pub record Parts : Type 0 where
@@ -65,7 +65,7 @@ blockBytes p = frontBytes (p .link) (p .orders) (p .slot) (p .slotSignature) ++ 
 
 -- parts that are a block's
 abbrev pub OrderFits : Order → Type 0
-OrderFits o = (within 0 lastDisplay (o .display) ≡ true) × (o .expected ≤ largest) × (o .new ≤ largest)
+OrderFits o = orderInRange o ≡ true
 
 pub record Fits (p : Parts) : Type 0 where
   pub link-size : length (p .link) ≡ 32

@@ -8,7 +8,7 @@ use lib.ListN.{length, replicate}
 use Rattle.laws.specs.Every.{both, within, every}
 use Rattle.laws.specs.Told.{Told, gives, refuses, Found}
 use Rattle.number.specs.Number.{written}
-use Rattle.order.specs.Order.{lastDisplay}
+use Rattle.order.specs.Order.{orderInRange}
 use Rattle.order.specs.declared.Order.{Order}
 use Rattle.block.specs.Block.{Parts, ordersBytes, frontBytes}
 use Rattle.block.specs.Answers.{listed, unlisted, toldPlace}
@@ -50,12 +50,9 @@ blockOf (refuses number place) = blockIn noParts
 abbrev pub toldBlock : BlockRead → Told (Found Parts)
 toldBlock r = toldPlace (partsIn (r .block)) (r .place)
 
--- what writing judges: "order count, display or slot out of its range"
-abbrev pub knownDisplay : Order → Bool
-knownDisplay o = within 0 lastDisplay (o .display)
-
+-- what writing judges: "order count, display or slot out of its range", and of the orders "a release above the largest"
 abbrev pub inRange : Orders → ℕ → Bool
-inRange orders slot = both (leb (orders .count) 8) (both (every knownDisplay (unlisted orders)) (within 1 256 slot))
+inRange orders slot = both (leb (orders .count) 8) (both (every orderInRange (unlisted orders)) (within 1 256 slot))
 
 abbrev pub frontFits : Front → Bool
 frontFits f = inRange (f .orders) (f .slot .0)

@@ -52,8 +52,8 @@ fn read_number_in(s: &[u8], at: usize, least: u32, most: u32) -> RangedRead
     match read_number(s, at) {
         NumberRead::Refused(number) => RangedRead::Refused(number),
         NumberRead::Value(value, next) => {
-            if within(least, value, most) {
-                RangedRead::Value(value, next)
+            if within(least as Number, value, most as Number) {
+                RangedRead::Value(value as u32, next)
             } else {
                 RangedRead::Refused(OUT_OF_RANGE)
             }

@@ -55,11 +55,11 @@ fits k orders h few each = record {
 }
 
 next-fits : (k : ℕ) → k < 256 → Fits (next k)
-next-fits zero h = fits 0 (carried 0) h refl ((refl, omega arith, omega arith), tt)
+next-fits zero h = fits 0 (carried 0) h refl (refl, tt)
 next-fits (suc k) h = fits (suc k) [] h refl tt
 
 other-fits : Fits other
-other-fits = fits 0 (boot 2 ∷ []) (omega arith) refl ((refl, omega arith, omega arith), tt)
+other-fits = fits 0 (boot 2 ∷ []) (omega arith) refl (refl, tt)
 
 -- ---- and follows
 abbrev pub start : Standing

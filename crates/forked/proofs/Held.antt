@@ -28,7 +28,7 @@ use Rattle.pool.specs.declared.Pool.{Pool}
 use Rattle.issue.specs.Issue.{taken}
 use Rattle.runs.specs.Runs.{Node, heldBytes, delivery, afterEvent, issues, correct, afterSlot, inSlot, issued, afterIssuing}
 use Rattle.runs.proofs.Nodes.{opening, Keeps, keeps-later, From, stayed, replaced, Met, met-delivery}
-use Rattle.runs.proofs.Pools.{Pooled, each-zeros, pooled-none}
+use Rattle.runs.proofs.Pools.{Pooled, pooled-none}
 use Rattle.runs.proofs.Issuing as issuing
 use Rattle.forked.specs.Forked.{genesis, table, signature, seal, link, next, chain, given, verdicts, buffer, run}
 use Rattle.forked.proofs.Blocks.{signed, sealed, start, stands, Good, given-good}
@@ -107,7 +107,7 @@ module _ (k : ℕ) (few : k < 5) (s : Node) (st : State (suc (suc k)) s (chain k
     low = omega arith;
     high = omega arith;
     keeps = st .keeps;
-    pooled = subst (Pooled (suc (suc k))) (sym (st .pool)) (pooled-none (suc (suc k)) (poolOf []) refl (each-zeros room));
+    pooled = subst (Pooled (suc (suc k))) (sym (st .pool)) (pooled-none (suc (suc k)) (poolOf []) refl);
     controller = suc (suc k);
     known = within-here 1 6 (suc (suc k)) (omega arith) (omega arith);
     is-turn = turn-is k few;

@@ -16,7 +16,6 @@ use Rattle.chain.proofs.Theorems.{what-is-written-of-blocks-is-bytes, bytes-at-
 use Rattle.agreement.specs.Core.{howMany}
 use Rattle.pool.specs.Pool.{room}
 use Rattle.runs.proofs.Among.{among-each, nowhere, the-only}
-use Rattle.runs.proofs.Pools.{each-zeros}
 use Rattle.runs.specs.Runs.{Event, delivery, offer, correct, afterSlot, holds, issued, Among, Encounter, in-delivery, as-held, as-issued, InRun, OfRun, Typed, LastOf, Premises}
 use Rattle.forked.specs.Forked.{table, next, other, chain, given, verdicts, events, run}
 use Rattle.forked.proofs.Blocks.{signed, sealed, Named, in-turn, forked, Good, chain-good, given-good}
@@ -48,19 +47,10 @@ delivered-bytes i (suc (suc k)) (low, high) bytes v among =
     let e = met-in-slot (delivery bytes v) i k among in
     subst Bytes (sym (ap bytesOf e)) (what-is-written-of-blocks-is-bytes (given i k) (given-good i k (omega arith) .fit))
 
-no-offer : {P : Type 0} (i slot : ℕ) (order : Order) → Among (offer order) (events i slot) → P
-unfolding isOffer
-no-offer i zero order among = absurd (nowhere _ among)
-no-offer i (suc zero) order among = absurd (nowhere _ among)
-no-offer i (suc (suc k)) order among = absurd (omega (arith, ap isOffer (met-in-slot (offer order) i k among)))
-
 typed : (i : ℕ) → Typed run i
 typed i = record {
   buffer = buffer-bytes;
-  pool = each-zeros room;
   deliveries = delivered-bytes i;
-  events = λ slot in-run order among. no-offer i slot order among;
-  offers = λ slot in-run order among. absurd (nowhere order among);
   signatures = λ slot in-run is-turn. signed;
   seals = λ slot in-run is-turn. sealed;
 }

@@ -1,5 +1,6 @@
 // The genesis table (01, "Genesis"): read as a whole or refused as a whole, and the two rules that hang on it, whose turn a slot is and how deep
 // a block must lie to be settled.
+use number::Number;
 use number::Reading;
 use order::DISPLAYS;
 use order::LAST_SLOT;
@@ -59,10 +60,11 @@ pub fn read(bytes: &[u8]) -> Table
     }
 }
 
+// What stands before the releases, as it was read: no rule need hold of it.
 pub struct Head {
-    pub n: u32,
-    pub t: u32,
-    pub u: u32,
+    pub n: Number,
+    pub t: Number,
+    pub u: Number,
 }
 
 pub enum HeadRead {
@@ -127,15 +129,16 @@ fn checked(bytes: &[u8], head: Head, releases: [Release; 64], keys: usize) -> Ta
     if !rules(head) {
         return refused();
     }
-    if !keys_end(bytes, keys, head.n) {
+    let n = head.n as u32;
+    if !keys_end(bytes, keys, n) {
         return refused();
     }
     Table {
         answer: Answer::Read,
         table: Genesis {
-            n: head.n,
-            t: head.t,
-            u: head.u,
+            n,
+            t: head.t as u32,
+            u: head.u as u32,
             releases,
             keys_at: keys,
         },
@@ -149,10 +152,10 @@ fn rules(head: Head) -> bool
 }
 
 // Whether there are controllers enough for t faulty ones.
-fn enough(n: u32, t: u32) -> bool
+fn enough(n: Number, t: Number) -> bool
     ensures { λ r. ⌜ r ≡ spec.enough n t ⌝ }
 {
-    within(1, n, 31) && 3 * t as u64 + 1 <= n as u64
+    within(1, n, 31) && t <= (n - 1) / 3
 }
 
 // Whether the bytes end with n keys that begin at a place.
@@ -206,11 +209,11 @@ pub fn clock_fits(table: Genesis, clock: Slot) -> bool
 pub fn depth(table: Genesis) -> u64
     ensures { λ r. ⌜ r ≡ spec.depth table ⌝ }
 {
-    if !enough(table.n, table.t) {
+    let n = table.n as Number;
+    let t = table.t as Number;
+    if !enough(n, t) {
         return 0;
     }
-    let n = table.n as u64;
-    let t = table.t as u64;
     let times = 2 * t / (n - 3 * t);
     3 * t * (times + 1) + 1
 }
@@ -230,7 +233,7 @@ pub fn find_key(bytes: &[u8], controller: u32) -> KeyPlace
     match answer {
         Answer::Refused => KeyPlace::Refused(BAD_GENESIS),
         Answer::Read => {
-            if within(1, controller, table.n) {
+            if within(1, controller as Number, table.n as Number) {
                 KeyPlace::At(table.keys_at + KEY_BYTES * (controller as usize - 1))
             } else {
                 KeyPlace::Refused(WRONG_CONTROLLER)

@@ -26,7 +26,7 @@ use Rattle.chain.specs.declared.Opened.{Opened}
 use Rattle.chain.specs.declared.Standing.{Standing}
 use Rattle.chain.specs.declared.Summary.{Summary}
 use Rattle.chain.proofs.Theorems.{a-held-chain-is-accepted-blocks, accepted-blocks-may-be-held, accepted-blocks-may-be-delivered, a-block-behind-an-accepted-chain-is-accepted, clock-and-verdicts-matter-only-by-what-they-admit}
-use Rattle.pool.specs.Pool.{counting, ordersOf, taking}
+use Rattle.pool.specs.Pool.{poolFits, counting, ordersOf, taking}
 use Rattle.pool.specs.declared.Pool.{Pool}
 use Rattle.issue.specs.Issue.{nextFront, appendBytes}
 use Rattle.issue.proofs.Appending.{Digest, Given, followed-digest, nextParts, append-writes, next-follows, next-parts-fit}
@@ -41,8 +41,8 @@ opened-link genesis clock o e =
 
 -- ---- one more block
 module _ (o : Opened) (buffer : List ℕ) (size : ℕ) (h : Summary) (bytes : Bytes buffer) (holds : heldChain o buffer size ≡ gives h)
-    (digest : Digest (o .link)) (clock : within 1 256 (o .clock .0) ≡ true) (pool : Pool) (signature seal : List ℕ) (given : Given pool signature seal)
-    (later : h .whole .stamp .0 < o .clock .0) where
+    (digest : Digest (o .link)) (clock : within 1 256 (o .clock .0) ≡ true) (pool : Pool) (signature seal : List ℕ) (given : Given signature seal)
+    (pool-fits : poolFits (o .clock .0) pool ≡ true) (later : h .whole .stamp .0 < o .clock .0) where
   abbrev p : Parts
   p = nextParts o h pool signature seal
 
@@ -66,7 +66,7 @@ module _ (o : Opened) (buffer : List ℕ) (size : ℕ) (h : Summary) (bytes : By
 
   behind : Behind o held h p summary
   behind = record {
-    fits = next-parts-fit o h pool signature seal (followed-digest (are .1 .0) _ (h .whole) digest (are .1 .2 .whole)) given clock;
+    fits = next-parts-fit o h pool signature seal (followed-digest (are .1 .0) _ (h .whole) digest (are .1 .2 .whole)) given pool-fits clock;
     whole = next-follows o h pool signature seal later;
     settled = refl;
     admits = rw (le-leb (o .clock .0) (o .clock .0) (omega arith));

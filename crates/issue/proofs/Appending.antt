@@ -11,31 +11,26 @@ use lib.Seq.{take-append-seam}
 use borrow.Author.Tests.{lt-ltb}
 use Rattle.laws.specs.Pick.{pick}
 use Rattle.laws.specs.Told.{gives}
-use Rattle.laws.specs.Every.{both, same, within}
-use Rattle.laws.specs.Format.{Bytes, Each}
+use Rattle.laws.specs.Every.{same, within}
+use Rattle.laws.specs.Format.{Bytes}
 use Rattle.laws.specs.Tabulate.{tabulate}
 use Rattle.laws.proofs.Told.{gives-same, then-gives, unless-gives}
 use Rattle.laws.proofs.Bytes.{bytes-filled}
-use Rattle.laws.proofs.Each.{each-append, each-take, each-those}
 use Rattle.laws.proofs.Every.{same-refl, within-here}
 use Rattle.laws.proofs.Tabulate.{length-tabulate}
 use Rattle.order.specs.declared.Order.{Order}
 use Rattle.sha256.specs.Sha256.{sha256, longest, padded, hashed, digestByte}
 use Rattle.block.specs.Block.{Parts, frontBytes, blockBytes, Fits}
-use Rattle.block.specs.Typed.{Writable}
-use Rattle.block.proofs.Calls.{fit-orders}
 use Rattle.chain.specs.Chain.{linkOf}
 use Rattle.chain.specs.Blocks.{follows, followed}
 use Rattle.chain.specs.declared.Opened.{Opened}
 use Rattle.chain.specs.declared.Standing.{Standing}
 use Rattle.chain.specs.declared.Summary.{Summary}
-use Rattle.pool.specs.Pool.{entriesIn, counts, counting, ordersOf, Taking, takeOne, taking}
-use Rattle.pool.specs.declared.Entry.{Entry}
-use Rattle.laws.specs.Fold.{folded}
-use Rattle.order.specs.Order.{valid, applied, obeyed}
+use Rattle.pool.specs.Pool.{poolFits, counting, ordersOf, taking}
+use Rattle.order.specs.Order.{obeyed}
 use Rattle.pool.specs.declared.Pool.{Pool}
 use Rattle.issue.specs.Issue.{taken, nextFront, appendBytes}
-use Rattle.issue.proofs.Fronts.{taken-fine}
+use Rattle.issue.proofs.Fronts.{taken-fine, taken-in-range}
 
 -- ---- links are 32 bytes
 pub record Digest (link : List ℕ) : Type 0 where
@@ -91,13 +86,12 @@ nextParts o held pool signature seal = record {
   blockSignature = seal;
 }
 
--- signatures of 64 bytes, and orders of releases that can be written, as the code's types have them
-pub record Given (pool : Pool) (signature seal : List ℕ) : Type 0 where
+-- signatures of 64 bytes, as the code's types have them
+pub record Given (signature seal : List ℕ) : Type 0 where
   pub signature-size : length signature ≡ 64
   pub signature-bytes : Bytes signature
   pub seal-size : length seal ≡ 64
   pub seal-bytes : Bytes seal
-  pub releases : Each (λ (e : Entry). Writable (e .order)) (pool .entries)
 
 -- what append writes is that block
 pub append-writes : (o : Opened) (held : Summary) (pool : Pool) (signature seal : List ℕ)
@@ -122,34 +116,16 @@ next-follows o held pool signature seal later =
     rw (lt-ltb (held .whole .stamp .0) (o .clock .0) later, same-refl (held .whole .link), taken-fine o held pool .obeys)
 
 -- ---- and its parts fit
-each-orders : (l : List Entry) → Each (λ (e : Entry). Writable (e .order)) l → Each Writable (ordersOf l)
-each-orders [] each = tt
-each-orders (e ∷ l) (here, rest) = (here, each-orders l rest)
-
-each-taken : (limit : ℕ) (orders : List Order) (t : Taking) → Each Writable orders → Each Writable (t .orders)
-    → Each Writable (folded (takeOne limit) t orders .orders)
-each-taken limit [] t each so-far = so-far
-each-taken limit (o ∷ rest) t (here, more) so-far = each-taken limit rest (takeOne limit t o) more (by-test (both (ltb (length (t .orders)) limit) (valid (t .releases) o)))
-  where
-    by-test : (β : Bool) → Each Writable (pick β (record { orders = t .orders ++ (o ∷ []); releases = applied (t .releases) o }) t .orders)
-    by-test true = each-append Writable (t .orders) (o ∷ []) so-far (here, tt)
-    by-test false = so-far
-
-pub next-parts-fit : (o : Opened) (held : Summary) (pool : Pool) (signature seal : List ℕ) → Digest (held .whole .link) → Given pool signature seal
-    → within 1 256 (o .clock .0) ≡ true → Fits (nextParts o held pool signature seal)
-unfolding taking
-next-parts-fit o held pool signature seal digest given clock =
-    let entries = each-those (λ (e : Entry). Writable (e .order)) (counts o held) (entriesIn pool) (each-take (λ (e : Entry). Writable (e .order)) (pool .count) (pool .entries) (given .releases)) in
-    let writable = each-taken 8 (ordersOf (counting o held pool)) (record { orders = []; releases = held .whole .releases })
-    (each-orders (counting o held pool) entries) tt in
-    record {
-      link-size = digest .size;
-      link-bytes = digest .bytes;
-      count = within-here 0 8 (length (taken o held pool)) zero-le (taken-fine o held pool .few);
-      orders = fit-orders (taken o held pool) (taken-fine o held pool .known) writable;
-      slot = clock;
-      slot-signature-size = given .signature-size;
-      slot-signature-bytes = given .signature-bytes;
-      block-signature-size = given .seal-size;
-      block-signature-bytes = given .seal-bytes;
-    }
+pub next-parts-fit : (o : Opened) (held : Summary) (pool : Pool) (signature seal : List ℕ) → Digest (held .whole .link) → Given signature seal
+    → poolFits (o .clock .0) pool ≡ true → within 1 256 (o .clock .0) ≡ true → Fits (nextParts o held pool signature seal)
+next-parts-fit o held pool signature seal digest given fits clock = record {
+  link-size = digest .size;
+  link-bytes = digest .bytes;
+  count = within-here 0 8 (length (taken o held pool)) zero-le (taken-fine o held pool .few);
+  orders = taken-in-range o held pool (o .clock .0) fits;
+  slot = clock;
+  slot-signature-size = given .signature-size;
+  slot-signature-bytes = given .signature-bytes;
+  block-signature-size = given .seal-size;
+  block-signature-bytes = given .seal-bytes;
+}

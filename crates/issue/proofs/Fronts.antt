@@ -1,6 +1,6 @@
 -- The front of the next block: the orders that were taken, in a list of eight, are in their range.
 -- Assumes nothing.
-use Prim.Native.Nat.{ℕ, zero, suc, _+_, _-_, _<_, _≤_, zero-le}
+use Prim.Native.Nat.{ℕ, zero, suc, _+_, _-_, _<_, _≤_}
 use mathlib.Core.Path.{_≡_, refl, sym, ap, _∙_, subst}
 use mathlib.Core.Bool.{true}
 use mathlib.Core.List.{List, [], _∷_, _++_}
@@ -10,24 +10,26 @@ use native.Mathlib.Numerals.{add-one}
 use lib.Dec.{ltb}
 use lib.ListN.{length, take, getD, set, replicate, length-set}
 use lib.Seq.{take-suc, take-suc-set, take-all, take-append-add, take-append-seam}
-use borrow.Author.Tests.{ltb-true, le-leb}
+use borrow.Author.Tests.{le-leb}
 use Rattle.laws.specs.Every.{within, every}
 use Rattle.laws.specs.Tabulate.{tailed}
-use Rattle.order.specs.Order.{displays, valid}
+use Rattle.laws.specs.Format.{Each}
+use Rattle.order.specs.Order.{orderInRange}
 use Rattle.order.specs.declared.Order.{Order}
 use Rattle.laws.specs.Told.{gives}
 use Rattle.laws.proofs.Told.{gives-same, then-gives, unless-gives}
-use Rattle.laws.proofs.Every.{both-true, within-here}
+use Rattle.laws.proofs.Each.{each-every}
 use Rattle.genesis.specs.Genesis.{genesisOf, clockFits}
 use Rattle.block.specs.Answers.{listed, unlisted}
-use Rattle.block.specs.Blocks.{knownDisplay, frontFits}
+use Rattle.block.specs.Blocks.{frontFits}
+use Rattle.block.specs.Block.{OrderFits}
 use Rattle.block.specs.declared.Front.{Front}
 use Rattle.chain.specs.Chain.{opened, heldChain, holding}
 use Rattle.chain.specs.declared.Opened.{Opened}
 use Rattle.chain.specs.declared.Summary.{Summary}
 use Rattle.pool.specs.Pool.{poolFits, counting, ordersOf, taking}
 use Rattle.pool.specs.declared.Pool.{Pool}
-use Rattle.pool.proofs.Takings.{Fine, taking-fine}
+use Rattle.pool.proofs.Takings.{Fine, taking-fine, taking-each, counting-in-range}
 use Rattle.issue.specs.Issue.{mayIssue, taken, nextFront, front}
 
 -- ---- the first eight of a longer list
@@ -65,21 +67,20 @@ eight-of d l few =
     ∙ take-append-add l (replicate (64 - length l) d) (8 - length l)
     ∙ ap (λ rest. l ++ rest) (take-replicate (8 - length l) (64 - length l) d (omega arith))
 
--- a valid order names a known display
-known : (r : List ℕ) (o : Order) → valid r o ≡ true → knownDisplay o ≡ true
-known r o e =
-    let (inside, _) = both-true (ltb (o .display) displays) _ e in
-    within-here 0 63 (o .display) zero-le (omega (arith, ltb-true (o .display) displays inside))
-
 module _ (o : Opened) (held : Summary) (pool : Pool) where
-  pub taken-fine : Fine 8 (held .whole .releases) knownDisplay (taking 8 (held .whole .releases) (ordersOf (counting o held pool)))
-  taken-fine = taking-fine 8 (held .whole .releases) knownDisplay known (ordersOf (counting o held pool))
+  pub taken-fine : Fine 8 (held .whole .releases) (taking 8 (held .whole .releases) (ordersOf (counting o held pool)))
+  taken-fine = taking-fine 8 (held .whole .releases) (ordersOf (counting o held pool))
 
-  pub next-fits : (signature : List ℕ) → within 1 256 (o .clock .0) ≡ true → frontFits (nextFront o held pool signature) ≡ true
-  next-fits signature clock =
-      let l = taken o held pool in
-      let all : every knownDisplay (unlisted (listed l)) ≡ true = ap (every knownDisplay) (take-append-seam l _) ∙ taken-fine .known in
-      rw (le-leb (length l) 8 (taken-fine .few), all) clock
+  module _ (clock : ℕ) (fits : poolFits clock pool ≡ true) where
+    pub taken-in-range : Each OrderFits (taken o held pool)
+    taken-in-range = taking-each OrderFits 8 (held .whole .releases) (ordersOf (counting o held pool)) (counting-in-range o held clock pool fits)
+
+    pub next-fits : (signature : List ℕ) → within 1 256 (o .clock .0) ≡ true → frontFits (nextFront o held pool signature) ≡ true
+    next-fits signature slot =
+        let l = taken o held pool in
+        let all : every orderInRange (unlisted (listed l)) ≡ true =
+        ap (every orderInRange) (take-append-seam l _) ∙ each-every orderInRange l taken-in-range in
+        rw (le-leb (length l) 8 (taken-fine .few), all) slot
 
 -- every call is opened at a slot from 1 to 256
 clock-fits : (genesis : List ℕ) (clock : ℕ) (buffer : List ℕ) (size : ℕ) (h : Opened × Summary) → holding genesis clock buffer size ≡ gives h
@@ -102,4 +103,4 @@ front-fits genesis clock held size pool controller signature f e =
     let (fits, rest′) = unless-gives (poolFits (h .0 .clock .0) pool) 18 0 _ f rest in
     let (turn, rest″) = unless-gives (mayIssue (h .0) controller) 12 0 _ f rest′ in
     let (later, is) = unless-gives (ltb (h .1 .whole .stamp .0) (h .0 .clock .0)) 6 0 _ f rest″ in
-    subst (λ (q : Front). frontFits q ≡ true) (gives-same is) (next-fits (h .0) (h .1) pool signature (clock-fits genesis clock held size h holds))
+    subst (λ (q : Front). frontFits q ≡ true) (gives-same is) (next-fits (h .0) (h .1) pool (h .0 .clock .0) fits signature (clock-fits genesis clock held size h holds))

@@ -35,7 +35,7 @@ module _ (t : Told Front) (out : List ℕ) (drafted : ℕ) (draft : writing draf
 
 -- ---- an appended chain: `o` is what the call is opened with, and `h` what it holds before
 module _ (genesis : List ℕ) (clock : ℕ) (buffer : List ℕ) (size : ℕ) (pool : Pool) (controller : ℕ) (signature seal : List ℕ) (next : ℕ)
-    (bytes : Bytes buffer) (given : Given pool signature seal) (o : Opened) (h : Summary)
+    (bytes : Bytes buffer) (given : Given signature seal) (o : Opened) (h : Summary)
     (opens : opened genesis clock ≡ gives o) (holds : heldChain o buffer size ≡ gives h)
     (append : writing (appendBytes seal) (front genesis clock buffer size pool controller signature) buffer size ≡ gives next) where
   -- the buffer then

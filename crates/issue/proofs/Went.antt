@@ -27,7 +27,7 @@ use Rattle.issue.proofs.Appending.{Digest, Given, link-digest}
 use Rattle.issue.proofs.Appended as appended
 
 module _ (genesis : List ℕ) (clock : ℕ) (buffer : List ℕ) (size : ℕ) (pool : Pool) (controller : ℕ) (signature seal : List ℕ) (next : ℕ)
-    (bytes : Bytes buffer) (given : Given pool signature seal) (o : Opened) (h : Summary)
+    (bytes : Bytes buffer) (given : Given signature seal) (o : Opened) (h : Summary)
     (opens : opened genesis clock ≡ gives o) (holds : heldChain o buffer size ≡ gives h)
     (append : writing (appendBytes seal) (front genesis clock buffer size pool controller signature) buffer size ≡ gives next) where
   -- the buffer then
@@ -40,6 +40,7 @@ module _ (genesis : List ℕ) (clock : ℕ) (buffer : List ℕ) (size : ℕ) (po
 
   -- what the call went by
   pub record Went : Type 0 where
+    pub pooled : poolFits (o .clock .0) pool ≡ true
     pub later : h .whole .stamp .0 < o .clock .0
     pub fits : placed buffer size (appendBytes seal (nextFront o h pool signature)) ≡ gives next
     pub is : after ≡ placing buffer size (appendBytes seal (nextFront o h pool signature))
@@ -48,11 +49,12 @@ module _ (genesis : List ℕ) (clock : ℕ) (buffer : List ℕ) (size : ℕ) (po
   went =
       let (f, is, fits) = then-gives (fronting o h pool controller signature) _ next
       (ap (λ (t : Told Front). writing (appendBytes seal) t buffer size) (sym front-is) ∙ append) in
-      let (_, rest) = unless-gives (poolFits (o .clock .0) pool) 18 0 _ f is in
+      let (pooled, rest) = unless-gives (poolFits (o .clock .0) pool) 18 0 _ f is in
       let (_, rest′) = unless-gives (mayIssue o controller) 12 0 _ f rest in
       let (late, same) = unless-gives (ltb (h .whole .stamp .0) (o .clock .0)) 6 0 _ f rest′ in
       let front-same : f ≡ nextFront o h pool signature = sym (gives-same same) in
       record {
+        pooled = pooled;
         later = ltb-true (h .whole .stamp .0) (o .clock .0) late;
         fits = subst (λ (q : Front). placed buffer size (appendBytes seal q) ≡ gives next) front-same fits;
         is = ap (λ (t : Told Front). written (appendBytes seal) t buffer size) (front-is ∙ is ∙ ap gives front-same);
@@ -66,20 +68,20 @@ module _ (genesis : List ℕ) (clock : ℕ) (buffer : List ℕ) (size : ℕ) (po
 
   -- what it comes to then
   abbrev pub then-held : Summary
-  then-held = appended.summary o buffer size h bytes holds digest (known .1) pool signature seal given (went .later)
+  then-held = appended.summary o buffer size h bytes holds digest (known .1) pool signature seal given (went .pooled) (went .later)
 
   pub held-then : heldChain o after next ≡ gives then-held
   held-then =
       ap (λ (l : List ℕ). heldChain o l next) (went .is)
-      ∙ appended.still-good o buffer size h bytes holds digest (known .1) pool signature seal given (went .later) next (went .fits)
+      ∙ appended.still-good o buffer size h bytes holds digest (known .1) pool signature seal given (went .pooled) (went .later) next (went .fits)
 
   pub good-elsewhere : (verdicts : List ℕ) → clock < 256 → ((i : ℕ) → i < h .whole .count .0 + 1 → getD verdicts i 0 ≡ 3)
       → checked genesis (clock + 1) (take next after) verdicts ≡ gives (h .whole .count .0 + 1, then-held .whole .releases)
   good-elsewhere verdicts below good =
-      let a = appended.accepted o buffer size h bytes holds digest (known .1) pool signature seal given (went .later) in
-      let blocks = appended.blocks o buffer size h bytes holds digest (known .1) pool signature seal given (went .later) in
+      let a = appended.accepted o buffer size h bytes holds digest (known .1) pool signature seal given (went .pooled) (went .later) in
+      let blocks = appended.blocks o buffer size h bytes holds digest (known .1) pool signature seal given (went .pooled) (went .later) in
       let chain = ap (take next) (went .is)
-      ∙ appended.chain-is o buffer size h bytes holds digest (known .1) pool signature seal given (went .later) next (went .fits) in
+      ∙ appended.chain-is o buffer size h bytes holds digest (known .1) pool signature seal given (went .pooled) (went .later) next (went .fits) in
       let count = the-count-is-the-number-of-blocks o held blocks then-held a in
       let (s, same, delivers) = appended.next-slot o blocks then-held a verdicts (λ i inside. good i (omega (arith, count))) in
       let delivers′ = subst (λ (n : ℕ). deliveredChain (atSlot o (n + 1)) (chainBytes blocks) verdicts ≡ gives s) (known .2) delivers in

@@ -5,6 +5,7 @@ use block::Orders;
 use block::Place;
 use chain::Opened;
 use chain::Summary;
+use number::Number;
 use order::BlockCount;
 use order::Order;
 use order::Slot;
@@ -45,7 +46,7 @@ fn may_issue(opened: Opened, controller: u32) -> bool
     ensures { λ r. ⌜ r ≡ spec.mayIssue opened controller ⌝ }
 {
     let table = opened.table;
-    if !within(1, controller, table.n) {
+    if !within(1, controller as Number, table.n as Number) {
         return false;
     }
     genesis::turn(table, opened.clock) == controller

@@ -1,7 +1,7 @@
 // Numbers and the digest.
-use buffer::Writing;
 use number::Number;
 use number::Reading;
+use number::Writing;
 use order::BlockCount;
 use refusal::BAD_NUMBER;
 use refusal::CUT;
@@ -9,8 +9,9 @@ use refusal::SHORT_BUFFER;
 use refusal::TOO_LONG;
 use sha256::Answer;
 ghost use mathlib.Core.Path.{_≡_};
-ghost use Rattle.laws.specs.Placed.{placed, placing};
-ghost use Rattle.number.specs.Number.{written, numberAt};
+ghost use lib.Dec.{leb};
+ghost use Rattle.laws.specs.Placed.{placedIf, placingIf};
+ghost use Rattle.number.specs.Number.{largest, written, numberAt};
 ghost use Rattle.ledger.specs.Answers.{numberAnswer, writeAnswer, digestAnswer};
 
 // A number, and the place after it.
@@ -65,14 +66,19 @@ pub extern "C" fn ledger_read_number(bytes: &[u8], at: usize) -> NumberAnswer
 
 #[no_mangle]
 pub extern "C" fn ledger_write_number(value: Number, at: usize, out: &mut [u8]) -> WriteAnswer
-    ensures answer { λ r. ⌜ r ≡ writeAnswer (placed (now (out .entry)) at (written value)) ⌝ }
-    ensures out { λ _. ⌜ now (out .exit) ≡ placing (now (out .entry)) at (written value) ⌝ }
+    ensures answer { λ r. ⌜ r ≡ writeAnswer (placedIf (leb value largest) 4 (now (out .entry)) at (written value)) ⌝ }
+    ensures out { λ _. ⌜ now (out .exit) ≡ placingIf (leb value largest) (now (out .entry)) at (written value) ⌝ }
 {
     match number::write(out, at, value) {
         Writing::Next(next) => WriteAnswer {
             refusal: 0,
             place: BlockCount(0),
             next,
+        },
+        Writing::Large => WriteAnswer {
+            refusal: BAD_NUMBER,
+            place: BlockCount(0),
+            next: 0,
         },
         Writing::Short => WriteAnswer {
             refusal: SHORT_BUFFER,

@@ -2,31 +2,30 @@
 -- Assumes nothing.
 use mathlib.Core.Path.{_≡_, refl, subst}
 use mathlib.Core.List.{List}
-use Prim.Native.Nat.{ℕ, zero, suc, _+_, _-_, _*_, _<_, _≤_}
+use Prim.Native.Nat.{ℕ, zero, suc, _+_, _-_, _*_, _%_, _<_, _≤_}
 use native.Mathlib.Omega.{arith}
 use native.Mathlib.Nat.{mul-comm}
 use Rattle.laws.proofs.Cases.{lt-cases}
-use lib.Dec.{ltb, leb}
+use lib.Dec.{ltb}
 use lib.ListN.{length, getD}
-use borrow.Author.Tests.{lt-ltb, le-ltb, le-leb, ltb-true}
+use borrow.Author.Tests.{lt-ltb, le-ltb, ltb-true}
 use Rattle.laws.specs.Told.{Told, gives, refuses, Found, found, then}
 use Rattle.laws.proofs.Told.{gives-not-refuses, gives-same, then-gives, unless-gives}
-use Rattle.number.specs.Number.{largest, joined, capped, readGroups, numberAt}
-use Rattle.number.specs.Steps.{endedBy, finished}
+use Rattle.number.specs.Number.{joined, readGroups, numberAt}
+use Rattle.number.specs.Steps.{finished}
 
-pub joined-capped : (group : ℕ) (rest : Told (Found ℕ)) → then (joined group rest) capped ≡ finished (group - 128) 128 rest
-joined-capped group (refuses number place) = refl
-joined-capped group (gives r) =
-    lt-cases 0 (r .value) (λ more. simp (lt-ltb _ _ more, mul-comm 128 (r .value))) (λ none. simp (le-ltb _ _ none))
+pub joined-finished : (group : ℕ) (rest : Told (Found ℕ)) → joined group rest ≡ finished (group % 128) 128 rest
+joined-finished group (refuses number place) = refl
+joined-finished group (gives r) = simp (mul-comm 128 (r .value))
 
 pub finished-joined : (low scale group : ℕ) (rest : Told (Found ℕ))
-    → finished low scale (joined group rest) ≡ finished (low + (group - 128) * scale) (scale * 128) rest
+    → finished low scale (joined group rest) ≡ finished (low + group % 128 * scale) (scale * 128) rest
 finished-joined low scale group (refuses number place) = refl
 finished-joined low scale group (gives r) =
     lt-cases 0 (r .value)
     (λ more.
-    let positive : 0 < group - 128 + 128 * r .value = omega arith in
-    let same : low + (group - 128 + 128 * r .value) * scale ≡ low + (group - 128) * scale + r .value * (scale * 128) = omega arith in
+    let positive : 0 < group % 128 + 128 * r .value = omega arith in
+    let same : low + (group % 128 + 128 * r .value) * scale ≡ low + group % 128 * scale + r .value * (scale * 128) = omega arith in
     simp (lt-ltb _ _ more, lt-ltb _ _ positive, same))
     (λ none. simp (le-ltb _ _ none))
 
@@ -40,14 +39,18 @@ module _ (low scale passed : ℕ) (s : List ℕ) (at : ℕ) (few : passed < 5) w
   turn-cut h = rw one-less (simp (le-ltb _ _ h))
 
   module _ (inside : at < length s) where
-    pub turn-last : getD s at 0 < 128
-        → finished low scale (readGroups (5 - passed) s at) ≡ endedBy (low + getD s at 0 * scale) (getD s at 0) (at + 1)
+    pub turn-none : getD s at 0 ≡ 0 → finished low scale (readGroups (5 - passed) s at) ≡ refuses 4 0
     unfolding readGroups
-    turn-last h = rw one-less (simp (lt-ltb _ _ inside, lt-ltb _ _ h))
+    turn-none h = rw one-less (simp (lt-ltb _ _ inside, h))
+
+    pub turn-last : 0 < getD s at 0 → getD s at 0 < 128
+        → finished low scale (readGroups (5 - passed) s at) ≡ found (low + getD s at 0 * scale) (at + 1)
+    unfolding readGroups
+    turn-last positive h = rw one-less (simp (lt-ltb _ _ inside, lt-ltb _ _ h, lt-ltb _ _ positive))
 
     pub turn-more : 128 ≤ getD s at 0
         → finished low scale (readGroups (5 - passed) s at)
-        ≡ finished (low + (getD s at 0 - 128) * scale) (scale * 128) (readGroups (5 - (passed + 1)) s (at + 1))
+        ≡ finished (low + getD s at 0 % 128 * scale) (scale * 128) (readGroups (5 - (passed + 1)) s (at + 1))
     unfolding readGroups
     turn-more h =
         rw one-less
@@ -66,14 +69,12 @@ module _ (s : List ℕ) (at : ℕ) where
   module _ (inside : at < length s) where
     pub number-one : getD s at 0 < 128 → numberAt s at ≡ found (getD s at 0) (at + 1)
     unfolding numberAt readGroups
-    number-one h =
-        let small : getD s at 0 ≤ largest = omega arith in
-        simp (lt-ltb _ _ inside, lt-ltb _ _ h, le-leb _ _ small)
+    number-one h = simp (lt-ltb _ _ inside, lt-ltb _ _ h)
 
-    pub number-more : 128 ≤ getD s at 0 → numberAt s at ≡ finished (getD s at 0 - 128) 128 (readGroups 4 s (at + 1))
+    pub number-more : 128 ≤ getD s at 0 → numberAt s at ≡ finished (getD s at 0 % 128) 128 (readGroups 4 s (at + 1))
     unfolding numberAt readGroups
     number-more h =
-        simp (lt-ltb _ _ inside, le-ltb _ _ h) (joined-capped (getD s at 0) (readGroups 4 s (at + 1)))
+        simp (lt-ltb _ _ inside, le-ltb _ _ h) (joined-finished (getD s at 0) (readGroups 4 s (at + 1)))
 
 -- a number that reads ends behind its place, within the bytes, and after five of them at most
 pub record Ends (s : List ℕ) (at most : ℕ) (r : Found ℕ) : Type 0 where
@@ -100,7 +101,4 @@ groups-end (suc k) s at r e =
 
 pub number-ends : (s : List ℕ) (at : ℕ) (r : Found ℕ) → numberAt s at ≡ gives r → Ends s at (at + 5) r
 unfolding numberAt
-number-ends s at r e =
-    let (q, reads, fits) = then-gives (readGroups 5 s at) _ r e in
-    let (small, is) = unless-gives (leb (q .value) largest) 4 0 _ r fits in
-    subst (Ends s at (at + 5)) (gives-same is) (groups-end 5 s at q reads)
+number-ends s at r e = groups-end 5 s at r e

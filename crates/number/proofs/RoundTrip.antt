@@ -2,20 +2,20 @@
 -- Assumes nothing.
 use mathlib.Core.Path.{_≡_, sym, ap, _∙_, subst}
 use mathlib.Core.List.{List, [], _∷_, _++_, append-assoc}
-use Prim.Native.Nat.{ℕ, zero, suc, _+_, _-_, _*_, _/_, _%_, _^_, _<_, _≤_}
+use Prim.Native.Nat.{ℕ, zero, suc, _+_, _*_, _/_, _%_, _^_, _<_, _≤_}
 use native.Mathlib.Omega.{arith}
 use native.Mathlib.Numerals.{add-one}
 use native.Mathlib.Nat.{pow-suc, one-le-pow}
-use lib.Dec.{ltb, leb, lit<}
+use lib.Dec.{ltb, lit<}
 use lib.ListN.{length, getD, drop, length-append}
 use lib.Seq.{drop-cons, getD-append-seam}
-use borrow.Author.Tests.{lt-ltb, le-ltb, le-leb, ltb-true, leb-true}
+use borrow.Author.Tests.{lt-ltb, le-ltb, ltb-true}
 use Rattle.laws.specs.Told.{gives, refuses, Found, found}
 use Rattle.laws.specs.Format.{Bytes, Inverse}
 use Rattle.laws.proofs.Cases.{lt-cases}
 use Rattle.laws.proofs.Bytes.{bytes-nil, bytes-cons}
 use Rattle.laws.proofs.Told.{gives-not-refuses, gives-same, then-gives, unless-gives}
-use Rattle.number.specs.Number.{largest, groups, written, joined, readGroups, capped, numberAt}
+use Rattle.number.specs.Number.{largest, groups, written, joined, readGroups, numberAt}
 use Rattle.number.proofs.Written.{group-last, group-more, above}
 
 -- what is read at a place, and the bytes from there on
@@ -34,7 +34,7 @@ module _ (k : ℕ) (s : List ℕ) (at : ℕ) (inside : at < length s) where
   )
 
   reads-more : (r : Found ℕ) → Bytes s → 128 ≤ getD s at 0 → 0 < r .value → Reads k s (at + 1) r
-      → Reads (suc k) s at (record { value = getD s at 0 - 128 + 128 * r .value; next = r .next })
+      → Reads (suc k) s at (record { value = getD s at 0 % 128 + 128 * r .value; next = r .next })
   reads-more r bytes large positive rest =
       let low = bytes at in
       let group : getD s at 0 ≡ 128 + v % 128 = omega arith in
@@ -46,7 +46,7 @@ module _ (k : ℕ) (s : List ℕ) (at : ℕ) (inside : at < length s) where
       )
     where
       v : ℕ
-      v = getD s at 0 - 128 + 128 * r .value
+      v = getD s at 0 % 128 + 128 * r .value
 
 groups-only : (k : ℕ) (s : List ℕ) (at : ℕ) (r : Found ℕ) → Bytes s → readGroups k s at ≡ gives r → Reads k s at r
 unfolding readGroups
@@ -97,7 +97,7 @@ back-more k v before after large rest =
     let g : ℕ = 128 + v % 128 in
     let high : 128 ≤ g = omega arith in
     let positive : 0 < v / 128 = omega arith in
-    let whole : g - 128 + 128 * (v / 128) ≡ v = omega arith in
+    let whole : g % 128 + 128 * (v / 128) ≡ v = omega arith in
     let reads : readGroups k (before ++ (g ∷ (groups k (v / 128) ++ after))) (length before + 1)
     ≡ found (v / 128) (length before + 1 + length (groups k (v / 128))) =
     rw (moved before after g (groups k (v / 128)), ← (next before after g)) rest in
@@ -133,12 +133,6 @@ unfolding written numberAt
 number-inverse =
     record {
       bytes = λ v h. group-bytes 4 v (omega arith);
-      reads-back = λ before after v h. rw (groups-back 4 v before after (omega arith)) (simp (le-leb _ _ h));
-      only-written = λ s at r bytes e.
-          let (whole, reads, cap) = then-gives (readGroups 5 s at) capped r e in
-          let (small, same) = unless-gives (leb (whole .value) largest) 4 0 _ r cap in
-          let (bound, next, shape) = groups-only 5 s at whole bytes reads in
-          subst
-          (λ (q : Found ℕ). (q .value ≤ largest) × (q .next ≡ at + length (groups 5 (q .value))) × (drop at s ≡ groups 5 (q .value) ++ drop (q .next) s))
-          (gives-same same) (leb-true _ _ small, next, shape);
+      reads-back = λ before after v h. groups-back 4 v before after (omega arith);
+      only-written = λ s at r bytes e. let (bound, next, shape) = groups-only 5 s at r bytes e in (omega (arith, bound), next, shape);
     }

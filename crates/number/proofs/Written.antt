@@ -58,6 +58,18 @@ sized (suc k) v l h few =
     (lt-of-lt-of-le h (pow-le-pow-right {n = 128} (lit< tt) {i = suc (suc (suc k))} {j = 5} few))
     (sized k (v / 128) (le-div-iff-mul-le (lit< tt) .1 (rw pow-suc at l)) (above (suc (suc k)) v h) (omega arith))
 
+-- from the fifth group on a number has five, however large it is
+full : (k v : ℕ) → 128 ^ k ≤ v → length (groups (suc k) v) ≡ suc k
+unfolding groups
+full zero v h = lt-cases v 128 (λ small. simp (lt-ltb _ _ small)) (λ large. simp (le-ltb _ _ large))
+full (suc k) v h =
+    let many : 128 ≤ v = le-trans (pow-le-pow-right {n = 128} (lit< tt) {i = 1} {j = suc k} (omega arith)) h in
+    ap length (group-more (suc k) v many) ∙ ap suc (full k (v / 128) (le-div-iff-mul-le (lit< tt) .1 (rw pow-suc at h)))
+
+pub longest : (v : ℕ) → 128 ^ 4 ≤ v → length (written v) ≡ 5
+unfolding written
+longest v h = full 4 v h
+
 -- a number written at a place: its lowest group, and the groups above it at the next place
 pub sets-last : (out : List ℕ) (at v : ℕ) → v < 128 → sets out at (written v) ≡ set out at v
 sets-last out at v h = rw (written-last v h)

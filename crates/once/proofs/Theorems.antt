@@ -104,11 +104,13 @@ use Rattle.ledger.proofs.ledger_write_block.Kinds as ledger-write-block-kinds
 use Rattle.ledger.proofs.ledger_write_block.Reads as ledger-write-block
 use Rattle.ledger.proofs.ledger_write_number.Kinds as ledger-write-number-kinds
 use Rattle.ledger.proofs.ledger_write_number.Reads as ledger-write-number
-use Rattle.number.proofs.Answers.{reading-faithful}
+use Rattle.number.proofs.Answers.{reading-faithful, writing-faithful as number-writing-faithful}
 use Rattle.number.proofs.length.Kinds as number-length-kinds
 use Rattle.number.proofs.length.Reads as number-length
 use Rattle.number.proofs.read.Kinds as number-read-number-kinds
 use Rattle.number.proofs.read.Reads as number-read-number
+use Rattle.order.proofs.in_range.Kinds as order-in-range-kinds
+use Rattle.order.proofs.in_range.Reads as order-in-range
 use Rattle.order.proofs.in_run.Kinds as order-in-run-kinds
 use Rattle.order.proofs.in_run.Reads as order-in-run
 use Rattle.order.proofs.slots_before.Kinds as order-slots-before-kinds
@@ -180,7 +182,7 @@ pub number-length-answers-once : OneAnswer 0 number-length-kinds.ps number-lengt
 number-length-answers-once κs a x y s t p q = p ∙ sym q
 
 pub write-number-answers-once : OneAnswer 1 number-write-number-kinds.ps number-write-number-kinds.r number-write-number.Post
-write-number-answers-once κs a x y s t p q = writing-faithful x y (p .0 ∙ sym (q .0))
+write-number-answers-once κs a x y s t p q = number-writing-faithful x y (p .0 ∙ sym (q .0))
 
 pub write-number-leaves-its-buffer-once : OneLater 1 number-write-number-kinds.ps number-write-number-kinds.r number-write-number.Post (λ κs s. now (s .0))
 write-number-leaves-its-buffer-once κs a x y s t p q = p .1 ∙ sym (q .1)
@@ -198,6 +200,9 @@ within-answers-once κs a x y s t p q = p ∙ sym q
 
 pub in-run-answers-once : OneAnswer 0 order-in-run-kinds.ps order-in-run-kinds.r order-in-run.Post
 in-run-answers-once κs a x y s t p q = p ∙ sym q
+
+pub order-in-range-answers-once : OneAnswer 0 order-in-range-kinds.ps order-in-range-kinds.r order-in-range.Post
+order-in-range-answers-once κs a x y s t p q = p ∙ sym q
 
 pub slots-before-answers-once : OneAnswer 0 order-slots-before-kinds.ps order-slots-before-kinds.r order-slots-before.Post
 slots-before-answers-once κs a x y s t p q = p ∙ sym q

@@ -3,11 +3,12 @@
 use Prim.Native.Nat.{ℕ, _-_}
 use mathlib.Core.Bool.{Bool}
 use mathlib.Core.List.{List, [], _∷_}
-use lib.Dec.{ltb, eqb}
+use lib.Dec.{ltb, leb, eqb}
 use lib.ListN.{getD, set}
 use Rattle.laws.specs.Pick.{pick}
 use Rattle.laws.specs.Told.{Told, gives, unless}
-use Rattle.laws.specs.Every.{both}
+use Rattle.laws.specs.Every.{both, within}
+use Rattle.number.specs.Number.{largest}
 use Rattle.order.specs.declared.Order.{Order}
 
 abbrev pub displays : ℕ
@@ -15,6 +16,10 @@ displays = 64
 
 abbrev pub lastDisplay : ℕ
 lastDisplay = displays - 1
+
+-- what is 5 in an offer or a block to be written and 18 in the pool, if it does not hold: a display above 63, "a release above the largest"
+abbrev pub orderInRange : Order → Bool
+orderInRange o = both (within 0 lastDisplay (o .display)) (both (leb (o .expected) largest) (leb (o .new) largest))
 
 -- "valid at a state exactly if the display's release equals the expected one and the new one is greater"
 abbrev pub valid : List ℕ → Order → Bool

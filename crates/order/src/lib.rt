@@ -1,9 +1,11 @@
 // Orders on the releases of 64 displays (01, "Orders, blocks, chains"), and the two kinds of number that are never mixed.
+use number::LARGEST;
+use number::Number;
 ghost use mathlib.Core.Path.{_≡_};
 ghost use Prim.Native.Nat.{_+_, _-_};
 ghost use lib.Dec.{ltb};
 ghost use Rattle.laws.specs.Every as spec;
-ghost use Rattle.order.specs.Order.{valid as isValid, taken};
+ghost use Rattle.order.specs.Order.{orderInRange, valid as isValid, taken};
 
 // A slot, or a block's slot stamp.
 #[repr(C)]
@@ -33,11 +35,11 @@ pub fn earlier(slot: Slot, than: Slot) -> bool
 pub fn in_run(slot: Slot, last: Slot) -> bool
     ensures { λ r. ⌜ r ≡ spec.within 1 (last .0) (slot .0) ⌝ }
 {
-    within(1, slot.0, last.0)
+    within(1, slot.0 as Number, last.0 as Number)
 }
 
-// Whether a count, a display or a controller lies in a range.
-pub fn within(least: u32, value: u32, most: u32) -> bool
+// Whether a number lies in a range.
+pub fn within(least: Number, value: Number, most: Number) -> bool
     ensures { λ r. ⌜ r ≡ spec.within least most value ⌝ }
 {
     least <= value && value <= most
@@ -64,7 +66,8 @@ pub fn fewer_slots_ago(slot: Slot, slots: u32, clock: Slot) -> bool
     (clock.0 as u64) < slot.0 as u64 + slots as u64
 }
 
-pub type Release = u32;
+// A layout release, at most the largest number.
+pub type Release = Number;
 
 pub const DISPLAYS: usize = 64;
 
@@ -80,6 +83,16 @@ pub struct Order {
     pub expected: Release,
     // and the one that it is to have then
     pub new: Release,
+}
+
+// Whether an order can be written: its display is one, and its releases are numbers.
+pub fn in_range(order: Order) -> bool
+    ensures { λ r. ⌜ r ≡ orderInRange order ⌝ }
+{
+    if LAST_DISPLAY < order.display {
+        return false;
+    }
+    order.expected <= LARGEST && order.new <= LARGEST
 }
 
 pub fn valid(releases: &[Release; 64], order: Order) -> bool

@@ -11,7 +11,7 @@ use borrow.Author.Tests.{lt-ltb, le-ltb}
 use Rattle.laws.specs.Told.{gives, refuses}
 use Rattle.laws.proofs.Cases.{lt-cases}
 use Rattle.laws.proofs.Fold.{those-fewer, tailed-add}
-use Rattle.order.specs.Order.{displays, valid}
+use Rattle.order.specs.Order.{orderInRange, valid}
 use Rattle.order.specs.declared.Order.{Order}
 use Rattle.chain.specs.declared.Opened.{Opened}
 use Rattle.chain.specs.declared.Summary.{Summary}
@@ -39,16 +39,16 @@ counting-few o held p long =
     omega (arith, those-fewer (counts o held) (entriesIn p))
 
 module _ (o : Opened) (held : Summary) (l : List Entry) (order : Order) where
-  pub no-display : displays ≤ order .display → joined o held l order ≡ refuses 5 0
-  no-display h = rw (le-ltb (order .display) displays h)
+  pub out-of-range : orderInRange order ≡ false → joined o held l order ≡ refuses 5 0
+  out-of-range e = rw e
 
-  module _ (inside : order .display < displays) where
+  module _ (inside : orderInRange order ≡ true) where
     pub not-valid : valid (taking room (held .whole .releases) (ordersOf l) .releases) order ≡ false → joined o held l order ≡ refuses 14 0
-    not-valid e = rw (e, lt-ltb (order .display) displays inside)
+    not-valid e = rw (e, inside)
 
     module _ (fine : valid (taking room (held .whole .releases) (ordersOf l) .releases) order ≡ true) where
       pub full : room ≤ length l → joined o held l order ≡ refuses 13 0
-      full h = rw (fine, lt-ltb (order .display) displays inside, le-ltb (length l) room h)
+      full h = rw (fine, inside, le-ltb (length l) room h)
 
       pub joins : length l < room → joined o held l order ≡ gives (poolOf (l ++ (record { order = order; slot = o .clock } ∷ [])))
-      joins h = rw (fine, lt-ltb (order .display) displays inside, lt-ltb (length l) room h)
+      joins h = rw (fine, inside, lt-ltb (length l) room h)

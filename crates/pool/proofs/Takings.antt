@@ -1,22 +1,27 @@
--- What is taken of orders: no more than asked for, only known displays, and each valid where it stands.
+-- What is taken of orders: no more than asked for, each valid where it stands, and in its range if the pool fits.
 -- Assumes nothing.
 use mathlib.Core.Path.{_≡_, refl, _∙_}
 use mathlib.Core.Bool.{Bool, true, false}
 use mathlib.Core.List.{List, [], _∷_, _++_}
 use Prim.Native.Nat.{ℕ, _≤_, zero-le}
 use native.Mathlib.Omega.{arith}
-use lib.Dec.{ltb}
+use lib.Dec.{ltb, leb}
 use lib.ListN.{length, length-append}
 use borrow.Author.Tests.{ltb-true}
 use Rattle.laws.specs.Pick.{pick}
 use Rattle.laws.specs.Told.{gives, then, unless}
-use Rattle.laws.specs.Every.{both, every}
+use Rattle.laws.specs.Every.{both, within, every}
 use Rattle.laws.specs.Fold.{folded}
+use Rattle.laws.specs.Format.{Each}
 use Rattle.laws.proofs.Every.{both-true}
-use Rattle.laws.proofs.Each.{each-append, every-each, each-every}
-use Rattle.order.specs.Order.{valid, applied, obeyed}
+use Rattle.laws.proofs.Each.{each-append, each-weaker, each-those, every-each}
+use Rattle.order.specs.Order.{orderInRange, valid, applied, obeyed}
 use Rattle.order.specs.declared.Order.{Order}
-use Rattle.pool.specs.Pool.{Taking, takeOne, taking}
+use Rattle.chain.specs.declared.Opened.{Opened}
+use Rattle.chain.specs.declared.Summary.{Summary}
+use Rattle.pool.specs.Pool.{room, entriesIn, entryFits, poolFits, counts, counting, ordersOf, Taking, takeOne, taking}
+use Rattle.pool.specs.declared.Entry.{Entry}
+use Rattle.pool.specs.declared.Pool.{Pool}
 
 -- orders that are valid one after the other, and then more of them
 pub obeyed-append : (releases : List ℕ) (xs ys : List Order) → obeyed releases (xs ++ ys) ≡ then (obeyed releases xs) λ after. obeyed after ys
@@ -30,31 +35,56 @@ obeyed-append releases (x ∷ xs) ys = by-test (valid releases x) (obeyed-append
     by-test false more = refl
 
 -- what is kept with each order that is taken
-pub record Fine (limit : ℕ) (releases : List ℕ) (test : Order → Bool) (t : Taking) : Type 0 where
+pub record Fine (limit : ℕ) (releases : List ℕ) (t : Taking) : Type 0 where
   pub few : length (t .orders) ≤ limit
-  pub known : every test (t .orders) ≡ true
   pub obeys : obeyed releases (t .orders) ≡ gives (t .releases)
 
-module _ (limit : ℕ) (releases : List ℕ) (test : Order → Bool) (knows : (r : List ℕ) (o : Order) → valid r o ≡ true → test o ≡ true) where
-  fine-one : (t : Taking) (o : Order) → Fine limit releases test t → Fine limit releases test (takeOne limit t o)
+module _ (limit : ℕ) (releases : List ℕ) where
+  fine-one : (t : Taking) (o : Order) → Fine limit releases t → Fine limit releases (takeOne limit t o)
   fine-one t o fine = by-test (both (ltb (length (t .orders)) limit) (valid (t .releases) o)) refl
     where
       by-test : (β : Bool) → both (ltb (length (t .orders)) limit) (valid (t .releases) o) ≡ β
-          → Fine limit releases test (pick β (record { orders = t .orders ++ (o ∷ []); releases = applied (t .releases) o }) t)
+          → Fine limit releases (pick β (record { orders = t .orders ++ (o ∷ []); releases = applied (t .releases) o }) t)
       by-test true e =
           let (less, good) = both-true (ltb (length (t .orders)) limit) (valid (t .releases) o) e in
           record {
             few = omega (arith, ltb-true (length (t .orders)) limit less, length-append (t .orders) (o ∷ []));
-            known = each-every test (t .orders ++ (o ∷ []))
-                (each-append (λ a. test a ≡ true) (t .orders) (o ∷ []) (every-each test (t .orders) (fine .known)) (knows (t .releases) o good, tt));
             obeys = obeyed-append releases (t .orders) (o ∷ []) ∙ rw (fine .obeys, good);
           }
       by-test false e = fine
 
-  fine-all : (orders : List Order) (t : Taking) → Fine limit releases test t → Fine limit releases test (folded (takeOne limit) t orders)
+  fine-all : (orders : List Order) (t : Taking) → Fine limit releases t → Fine limit releases (folded (takeOne limit) t orders)
   fine-all [] t fine = fine
   fine-all (o ∷ rest) t fine = fine-all rest (takeOne limit t o) (fine-one t o fine)
 
-  pub taking-fine : (orders : List Order) → Fine limit releases test (taking limit releases orders)
+  pub taking-fine : (orders : List Order) → Fine limit releases (taking limit releases orders)
   unfolding taking
-  taking-fine orders = fine-all orders (record { orders = []; releases = releases }) (record { few = zero-le; known = refl; obeys = refl })
+  taking-fine orders = fine-all orders (record { orders = []; releases = releases }) (record { few = zero-le; obeys = refl })
+
+-- what holds of all of them holds of those that are taken
+module _ (P : Order → Type 0) (limit : ℕ) where
+  each-taken : (orders : List Order) (t : Taking) → Each P orders → Each P (t .orders) → Each P (folded (takeOne limit) t orders .orders)
+  each-taken [] t each so-far = so-far
+  each-taken (o ∷ rest) t (here, more) so-far =
+      each-taken rest (takeOne limit t o) more (by-test (both (ltb (length (t .orders)) limit) (valid (t .releases) o)))
+    where
+      by-test : (β : Bool) → Each P (pick β (record { orders = t .orders ++ (o ∷ []); releases = applied (t .releases) o }) t .orders)
+      by-test true = each-append P (t .orders) (o ∷ []) so-far (here, tt)
+      by-test false = so-far
+
+  pub taking-each : (releases : List ℕ) (orders : List Order) → Each P orders → Each P (taking limit releases orders .orders)
+  unfolding taking
+  taking-each releases orders each = each-taken orders (record { orders = []; releases = releases }) each tt
+
+-- the orders of a pool that fits are in their range, and so are those of the entries that count
+each-orders : (l : List Entry) → Each (λ e. orderInRange (e .order) ≡ true) l → Each (λ o. orderInRange o ≡ true) (ordersOf l)
+each-orders [] each = tt
+each-orders (e ∷ l) (here, rest) = (here, each-orders l rest)
+
+pub counting-in-range : (o : Opened) (held : Summary) (clock : ℕ) (p : Pool) → poolFits clock p ≡ true
+    → Each (λ order. orderInRange order ≡ true) (ordersOf (counting o held p))
+counting-in-range o held clock p fits =
+    let (_, all) = both-true (leb (p .count) room) (every (entryFits clock) (entriesIn p)) fits in
+    let entries = each-weaker (λ e fine. both-true (orderInRange (e .order)) (within 1 clock (e .slot .0)) fine .0) (entriesIn p)
+    (every-each (entryFits clock) (entriesIn p) all) in
+    each-orders (counting o held p) (each-those (λ e. orderInRange (e .order) ≡ true) (counts o held) (entriesIn p) entries)

@@ -10,7 +10,7 @@ use Rattle.laws.specs.Told.{Told, gives, then, unless}
 use Rattle.laws.specs.Every.{both, within, every}
 use Rattle.laws.specs.Fold.{folded, those}
 use Rattle.laws.specs.Tabulate.{tailed}
-use Rattle.order.specs.Order.{displays, valid, applied}
+use Rattle.order.specs.Order.{orderInRange, valid, applied}
 use Rattle.order.specs.declared.Order.{Order}
 use Rattle.chain.specs.Chain.{holding}
 use Rattle.chain.specs.declared.Opened.{Opened}
@@ -31,9 +31,9 @@ entriesIn p = take (p .count) (p .entries)
 abbrev pub poolOf : List Entry → Pool
 poolOf l = record { count = length l; entries = tailed room noEntry l }
 
--- 18: "count above 64, or within the count an entry with a display above 63, slot 0 or slot above now"
+-- 18: "count above 64, or within the count an entry with a display above 63, slot 0 or slot above now"; 02, b: or "a release above the largest"
 abbrev pub entryFits : ℕ → Entry → Bool
-entryFits clock e = both (ltb (e .order .display) displays) (within 1 clock (e .slot .0))
+entryFits clock e = both (orderInRange (e .order)) (within 1 clock (e .slot .0))
 
 abbrev pub poolFits : ℕ → Pool → Bool
 poolFits clock p = both (leb (p .count) room) (every (entryFits clock) (entriesIn p))
@@ -65,7 +65,7 @@ taking limit releases orders = folded (takeOne limit) (record { orders = []; rel
 -- the pool after an order is offered to what counts: 5, 14, 13
 abbrev pub joined : Opened → Summary → List Entry → Order → Told Pool
 joined o held entries order =
-    unless (ltb (order .display) displays) 5 0
+    unless (orderInRange order) 5 0
     (unless (valid (taking room (held .whole .releases) (ordersOf entries) .releases) order) 14 0
     (unless (ltb (length entries) room) 13 0 (gives (poolOf (entries ++ (record { order = order; slot = o .clock } ∷ []))))))
 

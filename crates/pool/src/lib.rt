@@ -2,7 +2,6 @@
 use chain::Opened;
 use chain::Summary;
 use order::BlockCount;
-use order::DISPLAYS;
 use order::Order;
 use order::Release;
 use order::Slot;
@@ -75,7 +74,7 @@ pub fn fits(clock: Slot, pool: Pool) -> bool
 fn entry_fits(clock: Slot, entry: Entry) -> bool
     ensures { λ r. ⌜ r ≡ spec.entryFits (clock .0) entry ⌝ }
 {
-    if DISPLAYS <= entry.order.display as usize {
+    if !order::in_range(entry.order) {
         return false;
     }
     earlier(Slot(0), entry.slot) && !earlier(clock, entry.slot)
@@ -207,7 +206,7 @@ fn join(opened: Opened, held: Summary, pool: Pool, kept: Pool, order: Order) -> 
     ensures { λ r. ⌜ toldOffered r ≡ spec.joined opened held (spec.counting opened held pool) order ⌝ }
     ensures { λ r. ⌜ r .pool ≡ poolOr pool (toldOffered r) ⌝ }
 {
-    if DISPLAYS <= order.display as usize {
+    if !order::in_range(order) {
         return refused(OUT_OF_RANGE, BlockCount(0), pool);
     }
     let whole = held.whole;

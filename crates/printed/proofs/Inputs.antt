@@ -1,13 +1,14 @@
 -- The input, taken apart piece by piece.
 -- Assumes nothing.
 use Prim.Native.Nat.{ℕ, _+_, _-_, _<_, _≤_}
-use mathlib.Core.Path.{_≡_, sym, ap, _∙_}
+use mathlib.Core.Path.{_≡_, refl, sym, ap, _∙_}
 use mathlib.Core.List.{List}
 use native.Mathlib.Nat.{add-sub-cancel-left}
 use lib.ListN.{length, drop}
 use borrow.Author.Tests.{lt-leb, le-leb}
-use Rattle.laws.specs.Told.{gives, refuses, found}
+use Rattle.laws.specs.Told.{Told, gives, refuses, found}
 use Rattle.laws.specs.Bytes.{part}
+use Rattle.laws.proofs.Every.{within-above}
 use Rattle.number.specs.Number.{numberAt}
 use Rattle.genesis.specs.Genesis.{genesisOf}
 use Rattle.genesis.specs.declared.Genesis.{Genesis}
@@ -35,6 +36,14 @@ module _ (input : List ℕ) (size from : ℕ) (reads : numberAt input 0 ≡ foun
       start-good table good =
           let is = sym (good ∙ ap genesisOf part-same) in
           ap (λ (genesis : List ℕ). found genesis (from + size)) part-same ∙ rw (reads, le-leb _ _ few, le-leb _ _ enough, is)
+
+-- a number that is no slot is as good as any other
+pub no-slot : (genesis held : List ℕ) (clock : ℕ) → 256 < clock → stated genesis 0 held ≡ stated genesis clock held
+no-slot genesis held clock late = by-table (genesisOf genesis) refl
+  where
+    by-table : (t : Told Genesis) → genesisOf genesis ≡ t → stated genesis 0 held ≡ stated genesis clock held
+    by-table (gives table) e = rw (e, within-above 1 256 clock late)
+    by-table (refuses number place) e = rw e
 
 -- what an input asks for
 pub no-genesis : (input : List ℕ) (number place : ℕ) → genesisAt input ≡ refuses number place → answered input ≡ refuses number place

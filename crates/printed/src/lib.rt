@@ -5,14 +5,18 @@ mod lines;
 use buffer::Writing;
 use buffer::fits;
 use lines::put_text;
+use number::Number;
 use number::Reading;
 use order::BlockCount;
+use order::LAST_SLOT;
 use order::Slot;
 use refusal::BAD_CLOCK;
 use refusal::BAD_GENESIS;
 use report::Reported;
 ghost use mathlib.Core.Path.{_≡_};
+ghost use lib.Dec.{leb};
 ghost use lib.ListN.{length};
+ghost use Rattle.laws.specs.Pick.{pick};
 ghost use Rattle.laws.specs.Told.{refuses};
 ghost use Rattle.laws.specs.Placed.{placed, placing};
 ghost use Rattle.buffer.specs.Writing.{told};
@@ -20,7 +24,7 @@ ghost use Rattle.printed.specs.Station as spec;
 ghost use Rattle.printed.specs.Answers.{toldStart, Inside, toldAsked};
 
 // The most bytes that a genesis has.
-pub const LONGEST_GENESIS: u32 = 1315;
+pub const LONGEST_GENESIS: Number = 1315;
 
 // The most bytes that are printed.
 pub const LONGEST_TEXT: usize = 2751;
@@ -54,7 +58,7 @@ fn answered(input: &[u8]) -> Asked
     match genesis_at(input) {
         Start::Fault => refused(BAD_GENESIS),
         Start::Genesis(from, to) => match number::read(input, to) {
-            Reading::Value(clock, at) => stated(&input[from..to], Slot(clock), &input[at..]),
+            Reading::Value(clock, at) => stated(&input[from..to], clock, &input[at..]),
             Reading::Cut => refused(BAD_CLOCK),
             Reading::Badly => refused(BAD_CLOCK),
         },
@@ -84,11 +88,22 @@ fn genesis_at(input: &[u8]) -> Start
 }
 
 // The report at a slot, on a chain that is a whole slice.
-fn stated(genesis: &[u8], clock: Slot, held: &[u8]) -> Asked
-    ensures { λ r. ⌜ toldAsked r ≡ spec.stated (now (genesis .entry)) (clock .0) (now (held .entry)) ⌝ }
+fn stated(genesis: &[u8], clock: Number, held: &[u8]) -> Asked
+    ensures { λ r. ⌜ toldAsked r ≡ spec.stated (now (genesis .entry)) clock (now (held .entry)) ⌝ }
 {
+    let clock = slot_of(clock);
     let report = report::report(genesis, clock, held, held.len());
     Asked { clock, report }
+}
+
+// A number as a slot. One above the last is no slot, and 0 is none either.
+fn slot_of(clock: Number) -> Slot
+    ensures { λ r. ⌜ r .0 ≡ pick (leb clock 256) clock 0 ⌝ }
+{
+    if clock <= LAST_SLOT as Number {
+        return Slot(clock as u32);
+    }
+    Slot(0)
 }
 
 fn refused(number: u32) -> Asked

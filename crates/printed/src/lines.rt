@@ -32,16 +32,16 @@ fn put_refusal(out: &mut [u8], number: u32, place: BlockCount) -> usize
     ensures { λ r. ⌜ Wrote (now (out .entry)) 0 (spec.refusedText number (place .0)) r (now (out .exit)) ⌝ }
 {
     let next = after(buffer::put(out, 0, b"refused "), 0);
-    put_two(out, next, number, place.0)
+    put_two(out, next, number, place.0 as u64)
 }
 
 fn put_first(out: &mut [u8], clock: Slot, held: BlockCount, settled: BlockCount) -> usize
     requires { ⌜ Room (now out) 0 (spec.firstLine (clock .0) (held .0) (settled .0)) ⌝ }
     ensures { λ r. ⌜ Wrote (now (out .entry)) 0 (spec.firstLine (clock .0) (held .0) (settled .0)) r (now (out .exit)) ⌝ }
 {
-    let second = put_word(out, 0, clock.0, b' ');
-    let third = put_word(out, second, held.0, b' ');
-    put_word(out, third, settled.0, b'\n')
+    let second = put_word(out, 0, clock.0 as u64, b' ');
+    let third = put_word(out, second, held.0 as u64, b' ');
+    put_word(out, third, settled.0 as u64, b'\n')
 }
 
 fn put_displays(out: &mut [u8], at: usize, releases: &[Release; 64]) -> usize
@@ -68,20 +68,20 @@ fn put_display(out: &mut [u8], at: usize, display: u32, release: Release) -> usi
     put_two(out, at, display, release)
 }
 
-fn put_two(out: &mut [u8], at: usize, first: u32, second: u32) -> usize
+fn put_two(out: &mut [u8], at: usize, first: u32, second: u64) -> usize
     requires { ⌜ Room (now out) at (spec.twoNumbers first second) ⌝ }
     ensures { λ r. ⌜ Wrote (now (out .entry)) at (spec.twoNumbers first second) r (now (out .exit)) ⌝ }
 {
-    let next = put_word(out, at, first, b' ');
+    let next = put_word(out, at, first as u64, b' ');
     put_word(out, next, second, b'\n')
 }
 
 // A number, and a space or a newline behind it.
-fn put_word(out: &mut [u8], at: usize, value: u32, behind: u8) -> usize
+fn put_word(out: &mut [u8], at: usize, value: u64, behind: u8) -> usize
     requires { ⌜ Room (now out) at (spec.word value behind) ⌝ }
     ensures { λ r. ⌜ Wrote (now (out .entry)) at (spec.word value behind) r (now (out .exit)) ⌝ }
 {
-    let next = decimal::put(out, at, value as u64);
+    let next = decimal::put(out, at, value);
     out[next] = behind;
     next + 1
 }

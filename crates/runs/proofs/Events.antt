@@ -161,7 +161,7 @@ module _ (r : Run) where
         more = blocks;
         fine = record {
           keeps = f .keeps;
-          pooled = pooled-offer (r .genesis) slot (s .buffer) (s .size) (s .pool) order (premises .typed i is-correct .events slot in-run order among) (f .pooled);
+          pooled = pooled-offer (r .genesis) slot (s .buffer) (s .size) (s .pool) order (f .pooled);
           of-run = f .of-run;
           verify = f .verify;
         };

@@ -86,7 +86,7 @@ module _ (genesis : List ℕ) (table : Genesis) (clock : ℕ) (s : Node) (blocks
       rw (
         opens genesis table (x .reads) clock (x .low) (x .high),
         held-now .is,
-        x .pooled .fits,
+        x .pooled,
         x .known,
         eq-eqb (turn table clock) (x .controller) (x .is-turn),
         lt-ltb (held-now .summary .whole .stamp .0) clock later,
@@ -101,8 +101,8 @@ module _ (genesis : List ℕ) (table : Genesis) (clock : ℕ) (s : Node) (blocks
         signature-bytes = x .signed .1;
         seal-size = x .sealed .0;
         seal-bytes = x .sealed .1;
-        releases = x .pooled .releases;
       })
+      (x .pooled)
       (within-here 1 256 clock (x .low) (x .high))
 
   behind : Behind o held (held-now .summary) block then-held

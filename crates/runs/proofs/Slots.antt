@@ -258,8 +258,7 @@ module _ (r : Run) (premises : Premises r) where
           blocks = f .blocks;
           fine = record {
             keeps = f .fine .keeps;
-            pooled = pooled-offer (r .genesis) slot (s .buffer) (s .size) (s .pool) order (premises .typed i is-correct .offers slot in-run order (before, rest, e))
-                (f .fine .pooled);
+            pooled = pooled-offer (r .genesis) slot (s .buffer) (s .size) (s .pool) order (f .fine .pooled);
             of-run = f .fine .of-run;
             verify = f .fine .verify;
           };
@@ -298,7 +297,7 @@ module _ (r : Run) (premises : Premises r) where
         follows = refl;
         below = tt;
       };
-      pooled = pooled-none 0 (r .pools i) (premises .no-orders i is-correct) (premises .typed i is-correct .pool);
+      pooled = pooled-none 0 (r .pools i) (premises .no-orders i is-correct);
       of-run = tt;
       verify = tt;
     };

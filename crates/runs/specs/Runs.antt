@@ -11,7 +11,6 @@ use Rattle.laws.specs.Pick.{pick}
 use Rattle.laws.specs.Told.{Told, gives, refuses, givenOr}
 use Rattle.laws.specs.Fold.{folded}
 use Rattle.laws.specs.Format.{Bytes, Each}
-use Rattle.number.specs.Number.{largest}
 use Rattle.order.specs.declared.Order.{Order}
 use Rattle.genesis.specs.Genesis.{genesisOf, turn}
 use Rattle.genesis.specs.declared.Genesis.{Genesis}
@@ -156,16 +155,10 @@ pub record OfRun (r : Run) (p : Parts) : Type 0 where
   pub fit : Each Fits blocks
   pub among : Among p blocks
 
-abbrev pub OfType : Order → Type 0
-OfType order = (order .expected ≤ largest) × (order .new ≤ largest)
-
--- what is handed to a correct controller's calls is of their types
+-- what is handed to a correct controller's calls is of their types. Any order may be offered: one that can't be written is refused
 pub record Typed (r : Run) (i : ℕ) : Type 0 where
   pub buffer : Bytes (r .lent i)
-  pub pool : Each (λ entry. OfType (entry .order)) (r .pools i .entries)
   pub deliveries : (slot : ℕ) → InRun r slot → (bytes verdicts : List ℕ) → Among (delivery bytes verdicts) (r .events i slot) → Bytes bytes
-  pub events : (slot : ℕ) → InRun r slot → (order : Order) → Among (offer order) (r .events i slot) → OfType order
-  pub offers : (slot : ℕ) → InRun r slot → (order : Order) → Among order (r .offers i slot) → OfType order
   pub signatures : (slot : ℕ) → InRun r slot → turn (r .table) slot ≡ i → (length (r .signature i slot) ≡ 64) × Bytes (r .signature i slot)
   pub seals : (slot : ℕ) → InRun r slot → turn (r .table) slot ≡ i → (length (r .seal i slot) ≡ 64) × Bytes (r .seal i slot)
 

@@ -1,7 +1,8 @@
 // Runs published vectors: FIPS 180-4's and lengths around a block for SHA-256, and 01's table for numbers. Writes what comes out, a line each.
-use buffer::Writing;
 use libc::STDOUT_FILENO;
+use number::Number;
 use number::Reading;
+use number::Writing;
 use sha256::Answer;
 
 fn main() {
@@ -31,8 +32,13 @@ fn main() {
     written_line(16383);
     written_line(16384);
     written_line(4294967295);
+    written_line(4294967296);
+    written_line(34359738367);
+    written_line(34359738368);
     read_line(&[0x80, 0x00]);
     read_line(&[0xFF, 0xFF, 0xFF, 0xFF, 0x10]);
+    read_line(&[0xFF, 0xFF, 0xFF, 0xFF, 0xFF]);
+    read_line(&[0xFF, 0xFF, 0xFF, 0xFF, 0x00]);
     read_line(&[0x80]);
 }
 
@@ -66,11 +72,12 @@ fn hex_byte(byte: u8) {
 }
 
 // A number's bytes, and the number that they read as.
-fn written_line(value: u32) {
+fn written_line(value: Number) {
     let mut out = [0u8; 5];
     match number::write(&mut out, 0, value) {
         Writing::Next(next) => read_line(&out[..next]),
-        Writing::Short => text(b"refused 15\n"),
+        Writing::Large => text(b"number refused 4\n"),
+        Writing::Short => text(b"number refused 15\n"),
     }
 }
 
@@ -80,7 +87,7 @@ fn read_line(bytes: &[u8]) {
     match number::read(bytes, 0) {
         Reading::Value(value, _) => {
             text(b" is ");
-            io::print_decimal(STDOUT_FILENO, value as u64);
+            io::print_decimal(STDOUT_FILENO, value);
         }
         Reading::Cut => text(b" refused 3"),
         Reading::Badly => text(b" refused 4"),

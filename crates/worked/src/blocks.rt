@@ -66,10 +66,6 @@ fn print_orders(orders: Orders) {
 pub fn print_order(order: Order) {
     print::numbers(
         b" # # #",
-        &[
-            order.display as u64,
-            order.expected as u64,
-            order.new as u64,
-        ],
+        &[order.display as u64, order.expected, order.new],
     );
 }

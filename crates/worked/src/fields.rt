@@ -1,5 +1,6 @@
 // A case's line taken apart. Only `readable` refuses: elsewhere a field that is missing is empty, a byte past the end is 0, a character that
 // is no digit counts as 0, and what goes past a buffer's end is dropped.
+use order::Release;
 use order::Slot;
 ghost use Prim.Native.Nat.{_≤_};
 
@@ -109,6 +110,11 @@ pub fn number(line: &[u8], spaces: usize) -> u32 {
     } else {
         u32::MAX
     }
+}
+
+// The field as a release, whether it is one or not: as far as 64 bits go.
+pub fn release(line: &[u8], spaces: usize) -> Release {
+    decimal(field(line, spaces))
 }
 
 pub fn slot(line: &[u8], spaces: usize) -> Slot {

@@ -2,6 +2,7 @@
 use crate::fields;
 use crate::print;
 use order::Order;
+use order::Release;
 
 // valid DISPLAY RELEASE EXPECTED NEW
 pub fn valid(line: &[u8]) {
@@ -25,11 +26,11 @@ fn verdict(valid: bool) {
 }
 
 // The display at its release, every other at 0.
-fn releases(line: &[u8]) -> [u32; 64] {
-    let mut releases = [0u32; 64];
+fn releases(line: &[u8]) -> [Release; 64] {
+    let mut releases: [Release; 64] = [0; 64];
     let display = fields::place(line, 1);
     if display < 64 {
-        releases[display] = fields::number(line, 2);
+        releases[display] = fields::release(line, 2);
     }
     releases
 }
@@ -37,7 +38,7 @@ fn releases(line: &[u8]) -> [u32; 64] {
 fn ordered(line: &[u8]) -> Order {
     Order {
         display: fields::number(line, 1),
-        expected: fields::number(line, 3),
-        new: fields::number(line, 4),
+        expected: fields::release(line, 3),
+        new: fields::release(line, 4),
     }
 }

@@ -1,6 +1,7 @@
 // What an answer is printed with.
 use crate::fields::part;
 use libc::STDOUT_FILENO;
+use order::Release;
 use refusal::Answer;
 ghost use Prim.Native.Nat.{_≤_};
 
@@ -118,7 +119,7 @@ fn hex_byte(byte: u8) {
 }
 
 // The displays whose release is not 0, each with its release.
-pub fn releases(releases: &[u32; 64]) {
+pub fn releases(releases: &[Release; 64]) {
     let mut display = 0;
     while display < 64 {
         release(display, releases[display]);
@@ -126,8 +127,8 @@ pub fn releases(releases: &[u32; 64]) {
     }
 }
 
-fn release(display: usize, release: u32) {
+fn release(display: usize, release: Release) {
     if release != 0 {
-        numbers(b" #:#", &[display as u64, release as u64]);
+        numbers(b" #:#", &[display as u64, release]);
     }
 }

@@ -92,7 +92,7 @@ fn orders_of(fields: &[u8]) -> Orders {
 pub fn order_of(fields: &[u8]) -> Order {
     Order {
         display: fields::number(fields, 0),
-        expected: fields::number(fields, 1),
-        new: fields::number(fields, 2),
+        expected: fields::release(fields, 1),
+        new: fields::release(fields, 2),
     }
 }

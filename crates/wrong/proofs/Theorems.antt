@@ -4,12 +4,13 @@
 use mathlib.Core.Path.{_≡_, refl, ap}
 use mathlib.Core.Bool.{true}
 use mathlib.Core.List.{[], _∷_, _++_}
+use lib.Dec.{leb}
 use lib.ListN.{length, getD}
 use Rattle.laws.specs.Told.{gives}
 use Rattle.laws.specs.Every.{every, within}
 use Rattle.laws.specs.Run.{run}
-use Rattle.laws.specs.Placed.{placed, placing, placedIf, placingIf}
-use Rattle.number.specs.Number.{groups, written, numberAt, readGroups}
+use Rattle.laws.specs.Placed.{placedIf, placingIf}
+use Rattle.number.specs.Number.{largest, groups, written, numberAt, readGroups}
 use Rattle.sha256.specs.Sha256.{digestOf}
 use Rattle.genesis.specs.Genesis.{genesisOf, keyAt}
 use Rattle.block.specs.Block.{blockAt, frontBytes, blockBytes}
@@ -32,7 +33,7 @@ pub read-number : Rejected λ s. numberAt s 0
 unfolding numberAt readGroups
 read-number = rejected _ (0 ∷ []) [] refl refl
 
-pub write-number : Rejected λ out. placed out 0 (written 300)
+pub write-number : Rejected λ out. placedIf (leb 300 largest) 4 out 0 (written 300)
 unfolding written groups
 write-number = rejected _ (zeros 2) [] refl refl
 
@@ -118,7 +119,7 @@ unfolding heldChain run judged blockAt numberAt readGroups
 report = rejected _ 162 161 (ap (λ t. given (reported-from first 162 t)) (opens 3 refl)) (ap (λ t. given (reported-from first 161 t)) (opens 3 refl))
 
 -- ---- "one that touches nothing"
-pub writing-a-number-touches : TouchesNothing (λ out. placing out 0 (written 300)) → ⊥
+pub writing-a-number-touches : TouchesNothing (λ out. placingIf (leb 300 largest) out 0 (written 300)) → ⊥
 unfolding written groups
 writing-a-number-touches = touched _ (λ b. getD b 0 0) (zeros 2) 0 172 refl refl refl
 

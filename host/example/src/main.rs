@@ -2,7 +2,7 @@
 //! brings itself is made up here: `sign` and `verify`, storing, and sending, which is lending one controller's chain to the other.
 use std::error::Error;
 
-use ledger::{Held, Issue, Order, Pool, Refusal, Report, Signature, Slot};
+use ledger::{Held, Issue, Order, Pool, Refusal, Release, Report, Signature, Slot};
 use ledger::{BLOCK_TEXT_BYTES, CHAIN_BYTES, DISPLAYS, GENESIS_BYTES, SLOTS, SLOT_TEXT_BYTES};
 
 const DISPLAY: usize = 4;
@@ -53,7 +53,13 @@ impl Controller {
     }
 
     /// An order for the display is pooled, for this controller's next block.
-    fn offer(&mut self, genesis: &[u8], now: Slot, from: u32, to: u32) -> Result<(), Refusal> {
+    fn offer(
+        &mut self,
+        genesis: &[u8],
+        now: Slot,
+        from: Release,
+        to: Release,
+    ) -> Result<(), Refusal> {
         let order = Order {
             display: DISPLAY as u32,
             expected: from,

@@ -4,8 +4,8 @@ use core::fmt::{self, Display, Formatter};
 
 use crate::{raw, read_number, told, write_number};
 use crate::{
-    Genesis, Kind, Refusal, Releases, Slot, CONTROLLERS, DISPLAYS, GENESIS_BYTES, KEY_BYTES,
-    POOL_SLOTS,
+    Genesis, Kind, Refusal, Release, Releases, Slot, CONTROLLERS, DISPLAYS, GENESIS_BYTES,
+    KEY_BYTES, LARGEST, POOL_SLOTS,
 };
 
 impl Genesis {
@@ -47,11 +47,12 @@ pub fn write_genesis<'o>(
     keys: &[[u8; KEY_BYTES]],
     out: &'o mut [u8],
 ) -> Result<&'o [u8], GenesisFault> {
-    let n = u32::try_from(keys.len()).unwrap_or(u32::MAX);
-    head_fault(n, t, u)?;
+    let head = [keys.len() as u64, t.into(), u.into()];
+    head_fault(head)?;
+    release_fault(releases)?;
     let mut bytes = [0; GENESIS_BYTES];
     let mut at = 0;
-    for number in [n, t, u].iter().chain(releases) {
+    for number in head.iter().chain(releases) {
         at = write_number(*number, at, &mut bytes).map_err(|_| GenesisFault::ShortBuffer)?;
     }
     let length = at + keys.as_flattened().len();
@@ -65,15 +66,17 @@ pub fn write_genesis<'o>(
 #[derive(Debug, Clone, Copy, PartialEq, Eq)]
 pub enum GenesisFault {
     /// n is not 1 to 31.
-    Controllers { n: u32 },
+    Controllers { n: u64 },
     /// n is not at least 3t + 1.
-    Faulty { n: u32, t: u32 },
+    Faulty { n: u64, t: u64 },
     /// u is not 1 to 64.
-    Pooled { u: u32 },
+    Pooled { u: u64 },
+    /// A release that is to be written is above the largest.
+    Release { display: usize, release: Release },
     /// A number is cut, or badly written.
     Number { part: Part, kind: Kind },
     /// So many bytes stand where n keys belong.
-    Keys { n: u32, bytes: usize },
+    Keys { n: u64, bytes: usize },
     /// The buffer that it is to be written into.
     ShortBuffer,
 }
@@ -97,30 +100,40 @@ pub fn genesis_fault(bytes: &[u8]) -> Result<(), GenesisFault> {
         }
         Err(Refusal { kind, .. }) => Err(GenesisFault::Number { part, kind }),
     };
-    let (n, t, u) = (number(Part::N)?, number(Part::T)?, number(Part::U)?);
-    head_fault(n, t, u)?;
+    let head = [number(Part::N)?, number(Part::T)?, number(Part::U)?];
+    head_fault(head)?;
     for display in 0..DISPLAYS {
         number(Part::Release { display })?;
     }
-    let bytes = bytes.len() - at;
-    match bytes == n as usize * KEY_BYTES {
+    let (n, bytes) = (head[0], bytes.len() - at);
+    match bytes as u64 == n * KEY_BYTES as u64 {
         true => Ok(()),
         false => Err(GenesisFault::Keys { n, bytes }),
     }
 }
 
-/// n is 1 to 31 and at least 3t + 1, and u is 1 to 64.
-fn head_fault(n: u32, t: u32, u: u32) -> Result<(), GenesisFault> {
-    if !(1..=CONTROLLERS as u32).contains(&n) {
+/// n is 1 to 31 and at least 3t + 1, and u is 1 to 64. t is at most the largest number, so 3t + 1 is no more than 64 bits hold.
+fn head_fault([n, t, u]: [u64; 3]) -> Result<(), GenesisFault> {
+    if !(1..=CONTROLLERS as u64).contains(&n) {
         return Err(GenesisFault::Controllers { n });
     }
-    if u64::from(n) < 3 * u64::from(t) + 1 {
+    if n < 3 * t + 1 {
         return Err(GenesisFault::Faulty { n, t });
     }
-    if !(1..=POOL_SLOTS as u32).contains(&u) {
+    if !(1..=POOL_SLOTS as u64).contains(&u) {
         return Err(GenesisFault::Pooled { u });
     }
     Ok(())
+}
+
+fn release_fault(releases: &Releases) -> Result<(), GenesisFault> {
+    match releases.iter().position(|release| *release > LARGEST) {
+        None => Ok(()),
+        Some(display) => Err(GenesisFault::Release {
+            display,
+            release: releases[display],
+        }),
+    }
 }
 
 impl Display for GenesisFault {
@@ -136,12 +149,18 @@ impl Display for GenesisFault {
             GenesisFault::Pooled { u } => {
                 write!(f, "u = {u}: an order stays pooled for 1 to 64 slots")
             }
+            GenesisFault::Release { display, release } => {
+                write!(
+                    f,
+                    "display {display} at release {release}: the largest is {LARGEST}"
+                )
+            }
             GenesisFault::Number { part, kind } => match kind {
                 Kind::Cut => write!(f, "{part} is cut"),
                 _ => write!(f, "{part} is badly written"),
             },
             GenesisFault::Keys { n, bytes } => {
-                let expected = n as usize * KEY_BYTES;
+                let expected = n * KEY_BYTES as u64;
                 write!(
                     f,
                     "{bytes} bytes follow the releases, and {n} keys take {expected}"
@@ -204,13 +223,37 @@ mod tests {
     #[test]
     fn the_longest_and_a_byte_less_room() {
         let mut out = [0xEE; GENESIS_BYTES];
-        let (most, keys) = ([u32::MAX; DISPLAYS], keys(31));
+        let (most, keys) = ([LARGEST; DISPLAYS], keys(31));
         let short = write_genesis(10, 64, &most, &keys, &mut out[1..]);
         assert_eq!(short, Err(GenesisFault::ShortBuffer));
         assert_eq!(out, [0xEE; GENESIS_BYTES]);
         let bytes = write_genesis(10, 64, &most, &keys, &mut out).unwrap();
         assert_eq!(bytes.len(), GENESIS_BYTES);
-        assert_eq!(Genesis::read(bytes).map(|table| table.keys_at), Ok(323));
+        let table = Genesis::read(bytes).unwrap();
+        assert_eq!((table.keys_at, table.releases), (323, most));
+    }
+
+    #[test]
+    fn releases_above_the_largest() {
+        for (display, release, words) in [
+            (
+                0,
+                LARGEST + 1,
+                "display 0 at release 34359738368: the largest is 34359738367",
+            ),
+            (
+                63,
+                u64::MAX,
+                "display 63 at release 18446744073709551615: the largest is 34359738367",
+            ),
+        ] {
+            let (mut releases, mut out) = (releases(), [0xEE; GENESIS_BYTES]);
+            releases[display] = release;
+            let fault = write_genesis(0, 1, &releases, &keys(1), &mut out).unwrap_err();
+            assert_eq!(fault, GenesisFault::Release { display, release });
+            assert_eq!(fault.to_string(), words);
+            assert_eq!(out, [0xEE; GENESIS_BYTES]);
+        }
     }
 
     #[test]
@@ -250,5 +293,11 @@ mod tests {
             words(&[1, 1, 1]),
             "t = 1: of 1 controllers at most 0 may be faulty, since n is at least 3t + 1"
         );
+        // n = 2^32 + 1
+        assert_eq!(
+            words(&[0x81, 0x80, 0x80, 0x80, 0x10, 0, 1]),
+            "n = 4294967297: a station has 1 to 31 controllers"
+        );
+        assert_eq!(words(&[0xFF; 5]), "n is badly written");
     }
 }

@@ -1,7 +1,7 @@
 //! The limits of `include/ledger.h`, by its names.
 
 /// The version of the header that the declarations in [`raw`](crate::raw) follow.
-pub const VERSION: usize = 2;
+pub const VERSION: usize = 3;
 
 /// Displays are 0 to 63.
 pub const DISPLAYS: usize = 64;
@@ -17,6 +17,8 @@ pub const POOL_ROOM: usize = 64;
 pub const POOL_SLOTS: usize = 64;
 /// The most bytes of a number.
 pub const NUMBER_BYTES: usize = 5;
+/// The largest number, and the largest release: 35 bits.
+pub const LARGEST: u64 = 34359738367;
 pub const KEY_BYTES: usize = 32;
 pub const DIGEST_BYTES: usize = 32;
 pub const LINK_BYTES: usize = 32;

@@ -10,7 +10,7 @@ use crate::{Block, BlockCount, Genesis, Order, Pool, Releases, Signature, Slot, 
 pub struct NumberAnswer {
     pub refusal: u32,
     pub place: BlockCount,
-    pub value: u32,
+    pub value: u64,
     pub next: usize,
 }
 
@@ -137,27 +137,27 @@ mod layout {
     laid_out! {
         Slot 4 { 0 0 }
         BlockCount 4 { 0 0 }
-        Order 12 { display 0 expected 4 new 8 }
-        Orders 100 { count 0 list 4 }
-        Front 200 { link 0 orders 32 slot 132 slot_signature 136 }
-        Block 264 { front 0 block_signature 200 }
-        Entry 16 { order 0 slot 12 }
-        Pool 1028 { count 0 entries 4 }
+        Order 24 { display 0 expected 8 new 16 }
+        Orders 200 { count 0 list 8 }
+        Front 304 { link 0 orders 32 slot 232 slot_signature 236 }
+        Block 368 { front 0 block_signature 304 }
+        Entry 32 { order 0 slot 24 }
+        Pool 2056 { count 0 entries 8 }
         Signature 64 { 0 0 }
-        Genesis 280 { n 0 t 4 u 8 releases 12 keys_at 272 }
+        Genesis 536 { n 0 t 4 u 8 releases 16 keys_at 528 }
         NumberAnswer 24 { refusal 0 place 4 value 8 next 16 }
         WriteAnswer 16 { refusal 0 place 4 next 8 }
         DigestAnswer 40 { refusal 0 place 4 digest 8 }
-        GenesisAnswer 288 { refusal 0 place 4 table 8 }
+        GenesisAnswer 544 { refusal 0 place 4 table 8 }
         KeyAnswer 16 { refusal 0 place 4 at 8 }
-        BlockAnswer 280 { refusal 0 place 4 next 8 block 16 }
-        StepAnswer 288 { refusal 0 place 4 end 8 next 16 block 24 }
-        CheckAnswer 268 { refusal 0 place 4 count 8 releases 12 }
+        BlockAnswer 384 { refusal 0 place 4 next 8 block 16 }
+        StepAnswer 392 { refusal 0 place 4 end 8 next 16 block 24 }
+        CheckAnswer 528 { refusal 0 place 4 count 8 releases 16 }
         ChooseAnswer 12 { refusal 0 place 4 delivered 8 }
         AdoptAnswer 24 { refusal 0 place 4 length 8 count 16 }
-        PoolAnswer 1036 { refusal 0 place 4 pool 8 }
+        PoolAnswer 2064 { refusal 0 place 4 pool 8 }
         IssueAnswer 16 { refusal 0 place 4 length 8 }
-        ReportAnswer 280 { refusal 0 place 4 held 8 settled 12 settled_length 16 releases 24 }
+        ReportAnswer 536 { refusal 0 place 4 held 8 settled 12 settled_length 16 releases 24 }
     }
 }
 
@@ -202,7 +202,7 @@ macro_rules! exported {
 macro_rules! calls {
     () => { exported! {
         fn ledger_read_number(bytes: &[u8], at: usize) -> NumberAnswer;
-        fn ledger_write_number(value: u32, at: usize, out: &mut [u8]) -> WriteAnswer;
+        fn ledger_write_number(value: u64, at: usize, out: &mut [u8]) -> WriteAnswer;
         fn ledger_digest(message: &[u8]) -> DigestAnswer;
         fn ledger_read_genesis(bytes: &[u8]) -> GenesisAnswer;
         fn ledger_find_key(bytes: &[u8], controller: u32) -> KeyAnswer;

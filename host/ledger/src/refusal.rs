@@ -80,7 +80,7 @@ kinds! {
     2 BadClock "BAD_CLOCK" "the slot is not 1 to 256"
     3 Cut "CUT" "a block or a number is cut"
     4 BadNumber "BAD_NUMBER" "a number is badly written: not in its shortest form, or too large"
-    5 OutOfRange "OUT_OF_RANGE" "a count, a display or a slot is out of its range"
+    5 OutOfRange "OUT_OF_RANGE" "a count, a display, a release or a slot is out of its range"
     6 BadStamp "BAD_STAMP" "a block's slot is not above the one before it; to be issued: the held chain already has a block of this slot"
     7 LateStamp "LATE_STAMP" "a delivered block's slot is not below the clock's"
     8 BadVerdict "BAD_VERDICT" "a block's signatures do not verify, or nobody said whether they do"

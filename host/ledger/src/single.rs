@@ -2,13 +2,13 @@
 use crate::{raw, told, written, Block, Refusal, Slot, DIGEST_BYTES};
 
 /// The number at a place, and the place after it: 3, 4.
-pub fn read_number(bytes: &[u8], at: usize) -> Result<(u32, usize), Refusal> {
+pub fn read_number(bytes: &[u8], at: usize) -> Result<(u64, usize), Refusal> {
     let answer = raw::ledger_read_number(bytes, at);
     told(answer.refusal, answer.place, (answer.value, answer.next))
 }
 
-/// Writes a number at a place of a buffer and gives the place after it: 15.
-pub fn write_number(value: u32, at: usize, out: &mut [u8]) -> Result<usize, Refusal> {
+/// Writes a number at a place of a buffer and gives the place after it: 4 if it is above [`LARGEST`](crate::LARGEST), 15.
+pub fn write_number(value: u64, at: usize, out: &mut [u8]) -> Result<usize, Refusal> {
     let answer = raw::ledger_write_number(value, at, out);
     told(answer.refusal, answer.place, answer.next)
 }

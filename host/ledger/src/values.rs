@@ -11,16 +11,19 @@ pub struct Slot(pub u32);
 #[derive(Debug, Clone, Copy, Default, PartialEq, Eq, PartialOrd, Ord, Hash)]
 pub struct BlockCount(pub u32);
 
+/// A release. What is read is at most [`LARGEST`](crate::LARGEST); one above it that a host hands in is refused, never cut.
+pub type Release = u64;
+
 /// The release of each display.
-pub type Releases = [u32; DISPLAYS];
+pub type Releases = [Release; DISPLAYS];
 
 /// An order: the release that a display is to have before, and the one that it is to have then.
 #[repr(C)]
 #[derive(Debug, Clone, Copy, Default, PartialEq, Eq)]
 pub struct Order {
     pub display: u32,
-    pub expected: u32,
-    pub new: u32,
+    pub expected: Release,
+    pub new: Release,
 }
 
 /// The first `count` orders of the list are meant. Read from bytes, the others are zeros.

@@ -47,11 +47,10 @@ fn take_order(rest: &mut &[u8]) -> Result<Order, Refusal> {
 
 /// Takes a number; out of its range it is 5, at once.
 fn take_within(range: RangeInclusive<u32>, rest: &mut &[u8]) -> Result<u32, Refusal> {
-    let value = lent::number(rest)?;
-    if range.contains(&value) {
-        Ok(value)
-    } else {
-        Err(refusal(5))
+    let value = u32::try_from(lent::number(rest)?);
+    match value {
+        Ok(value) if range.contains(&value) => Ok(value),
+        _ => Err(refusal(5)),
     }
 }
 
@@ -59,13 +58,13 @@ impl Block {
     /// The block without its last 64 bytes.
     pub fn front_bytes(&self) -> Vec<u8> {
         let mut bytes = self.link.to_vec();
-        bytes.extend(number::bytes(self.orders.len() as u32));
+        bytes.extend(number::bytes(self.orders.len() as u64));
         for order in &self.orders {
-            bytes.extend(number::bytes(order.display));
+            bytes.extend(number::bytes(order.display.into()));
             bytes.extend(number::bytes(order.expected));
             bytes.extend(number::bytes(order.new));
         }
-        bytes.extend(number::bytes(self.slot.0));
+        bytes.extend(number::bytes(self.slot.0.into()));
         bytes.extend(self.slot_signature);
         bytes
     }
@@ -77,13 +76,10 @@ impl Block {
         bytes
     }
 
-    /// Whether order count, displays and slot are in their ranges.
+    /// Whether order count, displays, releases and slot are in their ranges.
     fn in_range(&self) -> bool {
         self.orders.len() <= *ORDERS.end() as usize
-            && self
-                .orders
-                .iter()
-                .all(|order| DISPLAYS.contains(&order.display))
+            && self.orders.iter().all(Order::in_range)
             && SLOTS.contains(&self.slot.0)
     }
 }
@@ -101,13 +97,14 @@ pub fn slot_text(slot: Slot, buffer: &mut [u8]) -> Result<usize, Refusal> {
     if !SLOTS.contains(&slot.0) {
         return Err(refusal(2));
     }
-    let text = [b"slot", &number::bytes(slot.0)[..]].concat();
+    let text = [b"slot", &number::bytes(slot.0.into())[..]].concat();
     lent::put(&text, buffer, 0)
 }
 
 #[cfg(test)]
 mod tests {
     use super::*;
+    use crate::number::LARGEST;
     use crate::samples::{self, order, BAD_NOWS, EDITS};
 
     /// A block of one order whose numbers take one byte each.
@@ -117,7 +114,7 @@ mod tests {
 
     /// The longest block.
     fn longest() -> Block {
-        samples::block(256, &[order(63, u32::MAX, u32::MAX); 8])
+        samples::block(256, &[order(63, LARGEST, LARGEST); 8])
     }
 
     #[test]
@@ -174,7 +171,7 @@ mod tests {
 
     #[test]
     fn the_earlier_byte_decides() {
-        let faults: [(u32, &[u8]); 14] = [
+        let faults: [(u32, &[u8]); 20] = [
             (5, &[9]),                                // a count of 9 at the slice's end
             (4, &[0x80, 0x00]),                       // not shortest, at the slice's end
             (3, &[0x80]),                             // cut, although it began badly
@@ -189,6 +186,12 @@ mod tests {
             (4, &[1, 2, 0, 0x81, 0x00, 0]),           // then a slot out of range
             (5, &[0, 0]),                             // slot 0, then a cut
             (5, &[2, 2, 40, 41, 64, 0x80, 0x00, 41]), // the second order's display first
+            (5, &[0x80, 0x80, 0x80, 0x80, 0x10]),     // a count of 2^32, which is not 0
+            (5, &[1, 0x82, 0x80, 0x80, 0x80, 0x10]),  // a display of 2^32 + 2
+            (5, &[0, 0x81, 0x80, 0x80, 0x80, 0x10]),  // a slot of 2^32 + 1
+            (5, &[0, 0xFF, 0xFF, 0xFF, 0xFF, 0x7F]),  // the largest number, as a slot
+            (4, &[1, 0x82, 0x80, 0x80, 0x80, 0x80]),  // a display too large, not out of range
+            (3, &[1, 2, 0xFF, 0xFF, 0xFF, 0xFF]),     // a cut in an expected release above 2^28
         ];
         for (number, bytes) in faults {
             assert_eq!(
@@ -197,6 +200,20 @@ mod tests {
                 "{bytes:02X?}"
             );
         }
+    }
+
+    /// An order from 2^32 to the largest release, its bytes by hand.
+    #[test]
+    fn releases_of_35_bits() {
+        let block = samples::block(9, &[order(2, 1 << 32, 34_359_738_367)]);
+        let mut bytes = vec![0; 32];
+        bytes.extend([1, 2, 0x80, 0x80, 0x80, 0x80, 0x10]);
+        bytes.extend([0xFF, 0xFF, 0xFF, 0xFF, 0x7F, 9]);
+        bytes.extend([[9; 64], [0xF6; 64]].as_flattened());
+        assert_eq!(read(&bytes), Ok((block.clone(), 173)));
+        let mut buffer = [0xEE; 173];
+        assert_eq!(write(&block, &mut buffer, 0), Ok(173));
+        assert_eq!(buffer[..], bytes);
     }
 
     #[test]
@@ -257,6 +274,10 @@ mod tests {
             samples::block(0, &[]),
             samples::block(257, &[]),
             samples::block(65_537, &[]),
+            samples::block(9, &[order(0, LARGEST + 1, 1)]),
+            samples::block(9, &[order(0, 0, LARGEST + 1)]),
+            samples::block(9, &[good, good, order(0, u64::MAX, 1), good]),
+            samples::block(9, &[good, order(0, 0, u64::MAX)]),
         ] {
             for length in [0, 4_000] {
                 let mut buffer = vec![0xEE; length];

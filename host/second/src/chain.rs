@@ -167,6 +167,7 @@ pub fn check(
 #[cfg(test)]
 mod tests {
     use super::*;
+    use crate::number::LARGEST;
     use crate::order::Order;
     use crate::samples::{self, at, order, BLOCK, NOW};
 
@@ -193,7 +194,7 @@ mod tests {
         for blocks in 0..=5 {
             let (count, releases) = check_good(&chain[..BLOCK * blocks]).unwrap();
             let mut expected = starting_releases();
-            expected[2] += blocks as u32;
+            expected[2] += blocks as u64;
             assert_eq!(count, BlockCount(blocks as u32));
             assert_eq!(releases, expected);
         }
@@ -326,8 +327,8 @@ mod tests {
     #[test]
     fn orders_of_one_block_are_judged_one_after_the_other() {
         let mut expected = starting_releases();
-        (expected[2], expected[63]) = (50, u32::MAX);
-        let orders = [order(2, 40, 41), order(63, 0, u32::MAX), order(2, 41, 50)];
+        (expected[2], expected[63]) = (50, LARGEST);
+        let orders = [order(2, 40, 41), order(63, 0, LARGEST), order(2, 41, 50)];
         assert_eq!(one_block(&orders), Ok((BlockCount(1), expected)));
         for bad in [
             [order(2, 41, 42), order(2, 40, 41)],
@@ -337,6 +338,30 @@ mod tests {
         ] {
             assert_eq!(one_block(&bad), Err(at(10, 1)));
         }
+    }
+
+    /// Orders over 2^32 and to the largest; what only the lowest 32 bits would allow is not valid.
+    #[test]
+    fn releases_of_35_bits() {
+        let over = [
+            order(2, 40, (1 << 32) - 1),
+            order(2, (1 << 32) - 1, 1 << 32),
+        ];
+        let mut expected = starting_releases();
+        expected[2] = 1 << 32;
+        assert_eq!(one_block(&over), Ok((BlockCount(1), expected)));
+        expected[2] = LARGEST;
+        let largest = [over[0], over[1], order(2, 1 << 32, LARGEST)];
+        assert_eq!(one_block(&largest), Ok((BlockCount(1), expected)));
+        for bad in [
+            order(2, 0, 41),
+            order(2, 1 << 32, 7),
+            order(2, 1 << 32, 1 << 32),
+        ] {
+            assert_eq!(one_block(&[over[0], over[1], bad]), Err(at(10, 1)));
+        }
+        let wraps = [order(2, (1 << 32) + 40, (1 << 32) + 41)];
+        assert_eq!(one_block(&wraps), Err(at(10, 1)));
     }
 
     /// "Accepting 80 00 as zero: one block, two digests."
@@ -368,8 +393,8 @@ mod tests {
     fn every_slot_a_block() {
         let (genesis, chain) = samples::longest_chain(255);
         let (count, releases) = check(&genesis, Slot(256), &chain, &[3; 255]).unwrap();
-        let mut expected = [1 << 28; 64];
-        expected[..8].fill((1 << 28) + 255);
+        let mut expected = [samples::LONG_START; 64];
+        expected[..8].fill(LARGEST - 1);
         assert_eq!((count, releases), (BlockCount(255), expected));
         let refused = Err(at(8, 255));
         assert_eq!(check(&genesis, Slot(256), &chain, &[3; 254]), refused);
@@ -397,7 +422,7 @@ mod tests {
                 assert_eq!(standing.last, Some(Slot(samples::STAMPS[blocks - 1])));
                 assert_eq!(standing.before, &chain[length - BLOCK..length]);
                 assert_eq!(standing.link(), sha256::digest(standing.before));
-                assert_eq!(standing.releases[2], 40 + blocks as u32);
+                assert_eq!(standing.releases[2], 40 + blocks as u64);
             }
         }
     }

@@ -31,9 +31,9 @@ pub fn read(bytes: &[u8]) -> Result<Genesis, Refusal> {
 
 /// Takes a genesis off the front of `rest`.
 fn take(rest: &mut &[u8]) -> Result<Genesis, Refusal> {
-    let n = lent::number(rest)?;
-    let t = lent::number(rest)?;
-    let u = lent::number(rest)?;
+    let n = take_small(rest)?;
+    let t = take_small(rest)?;
+    let u = take_small(rest)?;
     if !enough(n, t) || !(1..=64).contains(&u) {
         return Err(refusal(1));
     }
@@ -53,6 +53,11 @@ fn take(rest: &mut &[u8]) -> Result<Genesis, Refusal> {
     })
 }
 
+/// Takes a number that 32 bits must hold: n, t and u are far smaller.
+fn take_small(rest: &mut &[u8]) -> Result<u32, Refusal> {
+    u32::try_from(lent::number(rest)?).map_err(|_| refusal(1))
+}
+
 /// "n is 1 to 31", and 02: "Allow every n of at least 3t + 1, so t goes up to 10."
 fn enough(n: u32, t: u32) -> bool {
     (1..=31).contains(&n) && u64::from(n) > 3 * u64::from(t)
@@ -61,7 +66,8 @@ fn enough(n: u32, t: u32) -> bool {
 impl Genesis {
     /// The genesis bytes.
     pub fn bytes(&self) -> Vec<u8> {
-        let numbers = [self.n, self.t, self.u].into_iter().chain(self.releases);
+        let head = [self.n, self.t, self.u].map(u64::from);
+        let numbers = head.into_iter().chain(self.releases);
         let mut bytes: Vec<u8> = numbers.flat_map(number::bytes).collect();
         bytes.extend(self.keys.as_flattened());
         bytes
@@ -116,6 +122,7 @@ impl<'a> Opening<'a> {
 #[cfg(test)]
 mod tests {
     use super::*;
+    use crate::number::LARGEST;
     use crate::samples::{self, BAD_NOWS};
 
     /// 01's worked examples.
@@ -223,10 +230,23 @@ mod tests {
         let shortest = samples::worked_genesis();
         assert_eq!(shortest.bytes().len(), 99);
         let mut longest = samples::genesis(31, 10, 64);
-        longest.releases = [u32::MAX; 64];
+        longest.releases = [LARGEST; 64];
         longest.keys = vec![[0xFF; 32]; 31];
         assert_eq!(longest.bytes().len(), LONGEST);
         assert_eq!(read(&longest.bytes()), Ok(longest));
+    }
+
+    /// FF FF FF FF 10, which was too large, is a release: 4,563,402,751.
+    #[test]
+    fn releases_of_35_bits() {
+        let good = samples::table();
+        for place in [3, 66] {
+            let form = [0xFF, 0xFF, 0xFF, 0xFF, 0x10];
+            let bytes = [&good[..place], &form, &good[place + 1..]].concat();
+            let table = read(&bytes).unwrap();
+            assert_eq!(table.releases[place - 3], 4_563_402_751);
+            assert_eq!(table.bytes(), bytes);
+        }
     }
 
     #[test]

@@ -289,7 +289,10 @@ mod tests {
         let (genesis, chain) = samples::longest_chain(256);
         let mut case = Case::good();
         let entries: Vec<Entry> = (0..9)
-            .map(|display| entry(order(display, (1 << 28) + 255, (1 << 28) + 256), 256))
+            .map(|display| {
+                let release = samples::LONG_START + 255;
+                entry(order(display, release, release + 1), 256)
+            })
             .collect();
         case.pool = Pool::of(&entries);
         (case.genesis, case.now, case.controller) = (genesis, Slot(256), 1);
@@ -327,8 +330,12 @@ mod tests {
 
     #[test]
     fn the_earliest_of_several_faults() {
+        let faults = samples::issuing_faults();
+        let [expected, new] = samples::of_releases(&faults);
         for call in CALLS {
-            samples::refuses_in_order(&samples::issuing_faults(), |case| call(case).err());
+            for faults in [&faults, &expected, &new] {
+                samples::refuses_in_order(faults, |case| call(case).err());
+            }
         }
     }
 }

@@ -2,7 +2,7 @@
 use super::{number, refusal, Refusal};
 
 /// Takes the number at the front of `rest`.
-pub fn number(rest: &mut &[u8]) -> Result<u32, Refusal> {
+pub fn number(rest: &mut &[u8]) -> Result<u64, Refusal> {
     let (value, length) = number::read(rest)?;
     *rest = &rest[length..];
     Ok(value)

@@ -1,6 +1,8 @@
 //! Slots, block counts, and orders over the releases of the 64 displays (01, "Orders, blocks, chains").
 use std::ops::RangeInclusive;
 
+use super::number::LARGEST;
+
 /// A slot: a stamp or a clock reading. "A slot stamp and a block count are kept apart throughout."
 #[derive(Debug, Clone, Copy, Default, PartialEq, Eq, PartialOrd, Ord)]
 pub struct Slot(pub u32);
@@ -13,18 +15,33 @@ pub struct BlockCount(pub u32);
 #[derive(Debug, Clone, Copy, Default, PartialEq, Eq)]
 pub struct Order {
     pub display: u32,
-    pub expected: u32,
-    pub new: u32,
+    pub expected: Release,
+    pub new: Release,
 }
 
+/// A release. One that is handed in may be above the largest number; what was read is not.
+pub type Release = u64;
+
 /// A state: the release of each display.
-pub type Releases = [u32; 64];
+pub type Releases = [Release; 64];
 
 /// The displays that an order can name.
 pub const DISPLAYS: RangeInclusive<u32> = 0..=63;
 
+/// The releases that can be written.
+pub const RELEASES: RangeInclusive<Release> = 0..=LARGEST;
+
 /// The slots there are, for a stamp and for now.
 pub const SLOTS: RangeInclusive<u32> = 1..=256;
+
+impl Order {
+    /// Whether the display and both releases are in their ranges, so that the order can be written.
+    pub fn in_range(&self) -> bool {
+        DISPLAYS.contains(&self.display)
+            && RELEASES.contains(&self.expected)
+            && RELEASES.contains(&self.new)
+    }
+}
 
 /// "Valid at a state exactly if the display's release equals the expected one and the new one is greater."
 pub fn valid(order: &Order, releases: &Releases) -> bool {
@@ -47,7 +64,7 @@ mod tests {
 
     /// Display 2 at release 40, the others at their own number.
     fn releases() -> Releases {
-        let mut releases = std::array::from_fn(|display| display as u32);
+        let mut releases = std::array::from_fn(|display| display as Release);
         releases[2] = 40;
         releases
     }
@@ -67,8 +84,8 @@ mod tests {
         for display in DISPLAYS {
             let mut after = releases();
             let expected = after[display as usize];
-            assert!(apply(&order(display, expected, u32::MAX), &mut after));
-            assert_eq!(after[display as usize], u32::MAX);
+            assert!(apply(&order(display, expected, LARGEST), &mut after));
+            assert_eq!(after[display as usize], LARGEST);
             after[display as usize] = expected;
             assert_eq!(after, releases());
         }
@@ -92,9 +109,32 @@ mod tests {
 
     #[test]
     fn largest_releases() {
-        let mut releases = [u32::MAX - 1; 64];
-        assert!(apply(&order(0, u32::MAX - 1, u32::MAX), &mut releases));
-        assert!(!apply(&order(0, u32::MAX, u32::MAX), &mut releases));
-        assert!(!apply(&order(0, u32::MAX, 0), &mut releases));
+        let mut releases = [LARGEST - 1; 64];
+        assert!(apply(&order(0, LARGEST - 1, LARGEST), &mut releases));
+        assert!(!apply(&order(0, LARGEST, LARGEST), &mut releases));
+        assert!(!apply(&order(0, LARGEST, 0), &mut releases));
+    }
+
+    /// Releases that are alike in their lowest 32 bits are not the same.
+    #[test]
+    fn releases_above_32_bits() {
+        let above = 1 << 32;
+        let mut releases = [above + 7; 64];
+        assert!(!apply(&order(0, 7, 8), &mut releases));
+        assert!(!apply(&order(0, above + 7, 8), &mut releases));
+        assert!(!apply(&order(0, above + 7, above + 7), &mut releases));
+        assert!(apply(&order(0, above + 7, 2 * above), &mut releases));
+        assert_eq!((releases[0], releases[1]), (2 * above, above + 7));
+    }
+
+    #[test]
+    fn ranges() {
+        assert!(order(0, 0, 0).in_range());
+        assert!(order(63, LARGEST, LARGEST).in_range());
+        for above in [LARGEST + 1, 1 << 36, u64::MAX] {
+            assert!(!order(0, above, LARGEST).in_range());
+            assert!(!order(0, 0, above).in_range());
+        }
+        assert!(!order(64, 0, 1).in_range());
     }
 }

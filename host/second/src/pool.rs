@@ -1,7 +1,7 @@
 //! The order pool (01, "Pool an order").
 use super::chain;
 use super::genesis::Opening;
-use super::order::{apply, valid, Order, Releases, Slot, DISPLAYS};
+use super::order::{apply, valid, Order, Releases, Slot};
 use super::{refusal, Refusal};
 
 /// How many entries a pool has room for.
@@ -33,7 +33,7 @@ impl Pool {
     }
 
     /// The entries that count, in order, or 18: "count above 64, or within the count an entry with a display above 63, slot 0 or slot
-    /// above now".
+    /// above now", and 02: "a release above the largest is .. 18 in the pool".
     pub fn counting(&self, opening: &Opening) -> Result<Vec<Entry>, Refusal> {
         let entries = self.entries.get(..self.count as usize).ok_or(refusal(18))?;
         if !entries.iter().all(|entry| entry.good(opening.now)) {
@@ -49,7 +49,7 @@ impl Pool {
 
 impl Entry {
     fn good(&self, now: Slot) -> bool {
-        DISPLAYS.contains(&self.order.display) && self.slot >= Slot(1) && self.slot <= now
+        self.order.in_range() && self.slot >= Slot(1) && self.slot <= now
     }
 
     /// "An entry counts while now minus its slot is less than u." For an entry whose slot is not above now.
@@ -82,7 +82,7 @@ pub fn offer(
     let opening = Opening::new(genesis, now)?;
     let held = chain::summary(&opening, held, held_length)?.whole;
     let mut entries = pool.counting(&opening)?;
-    if !DISPLAYS.contains(&order.display) {
+    if !order.in_range() {
         return Err(refusal(5));
     }
     let (_, releases) = taken(&entries, held.releases, ROOM);
@@ -100,6 +100,7 @@ pub fn offer(
 #[cfg(test)]
 mod tests {
     use super::*;
+    use crate::number::LARGEST;
     use crate::samples::{self, entry, order, Case};
 
     fn call(case: &mut Case) -> Option<Refusal> {
@@ -129,7 +130,7 @@ mod tests {
     #[test]
     fn valid_after_chain_and_entries() {
         let pool = Pool::of(&[entry(order(2, 40, 50), 20), entry(order(3, 0, 9), 20)]);
-        for good in [order(2, 50, 51), order(3, 9, u32::MAX), order(63, 0, 1)] {
+        for good in [order(2, 50, 51), order(3, 9, LARGEST), order(63, 0, 1)] {
             assert!(offered(&pool, good).is_ok());
         }
         for bad in [
@@ -175,7 +176,7 @@ mod tests {
     fn places_past_the_count_hold_zeros() {
         let mut pool = Pool {
             count: 2,
-            entries: [entry(order(u32::MAX, 7, 7), 0); ROOM],
+            entries: [entry(order(u32::MAX, u64::MAX, LARGEST + 1), 0); ROOM],
         };
         pool.entries[0] = entry(order(2, 40, 41), 3);
         pool.entries[1] = entry(order(2, 40, 41), 17);
@@ -262,6 +263,53 @@ mod tests {
         }
     }
 
+    /// Whether or not the display is there and the order would be valid: display 2 is at release 40, display 3 at the largest.
+    #[test]
+    fn offered_releases() {
+        let mut table = samples::genesis(6, 1, 5);
+        table.releases[3] = LARGEST;
+        for above in [LARGEST + 1, (1 << 35) + 40, 1 << 36, u64::MAX] {
+            for bad in [
+                order(2, 40, above),
+                order(2, above, 41),
+                order(3, LARGEST, above),
+                order(3, above, LARGEST),
+                order(64, above, above),
+            ] {
+                let mut case = Case::good();
+                (case.genesis, case.held_length) = (table.bytes(), 0);
+                case.order = bad;
+                samples::answers(Some(refusal(5)), "release", case, call);
+            }
+        }
+    }
+
+    /// From below 2^32 over it to the largest release, and no further.
+    #[test]
+    fn releases_of_35_bits() {
+        let mut pool = Pool::of(&[]);
+        let mut entries = Vec::new();
+        for (expected, new) in [
+            (40, u32::MAX.into()),
+            (u32::MAX.into(), 1 << 32),
+            (1 << 32, LARGEST),
+        ] {
+            let next = order(2, expected, new);
+            pool = offered(&pool, next).unwrap();
+            entries.push(entry(next, 20));
+            assert_eq!(pool, Pool::of(&entries));
+        }
+        assert_eq!(offered(&pool, order(2, LARGEST, LARGEST)), Err(refusal(14)));
+        assert_eq!(
+            offered(&pool, order(2, LARGEST, LARGEST + 1)),
+            Err(refusal(5))
+        );
+        assert_eq!(
+            offered(&pool, order(2, LARGEST & 0xFFFF_FFFF, LARGEST)),
+            Err(refusal(14))
+        );
+    }
+
     #[test]
     fn taken_orders_stop_at_the_limit() {
         let entries: Vec<Entry> = (0..10).map(|r| entry(order(0, r, r + 1), 1)).collect();
@@ -292,13 +340,17 @@ mod tests {
     fn a_refusal_drops_nothing() {
         let mut case = Case::good();
         case.pool = Pool::of(&[entry(order(0, 0, 1), 1), entry(order(1, 0, 1), 2)]);
-        case.pool.entries[2] = entry(order(u32::MAX, 7, 7), 0);
+        case.pool.entries[2] = entry(order(u32::MAX, u64::MAX, 7), 0);
         case.order = order(2, 39, 41);
         samples::answers(Some(refusal(14)), "old entries", case, call);
     }
 
     #[test]
     fn the_earliest_of_several_faults() {
-        samples::refuses_in_order(&samples::pooling_faults(), call);
+        let faults = samples::pooling_faults();
+        samples::refuses_in_order(&faults, call);
+        for faults in samples::of_releases(&faults) {
+            samples::refuses_in_order(&faults, call);
+        }
     }
 }

@@ -42,14 +42,21 @@ pub fn station(input: &[u8]) -> String {
 fn reported(input: &[u8]) -> Result<(Slot, Report), Refusal> {
     let mut rest = input;
     let genesis = take_genesis(&mut rest)?;
-    let now = Slot(lent::number(&mut rest).map_err(|_| refusal(2))?);
+    let now = take_now(&mut rest)?;
     let report = report(genesis, now, rest, rest.len())?;
     Ok((now, report))
 }
 
+/// Takes now, or 2, also if it is above every slot that 32 bits hold.
+fn take_now(rest: &mut &[u8]) -> Result<Slot, Refusal> {
+    let now = lent::number(rest).map_err(|_| refusal(2))?;
+    u32::try_from(now).map(Slot).map_err(|_| refusal(2))
+}
+
 /// Takes the genesis length and the genesis, a good one, or 1.
 fn take_genesis<'a>(rest: &mut &'a [u8]) -> Result<&'a [u8], Refusal> {
-    let length = lent::number(rest).map_err(|_| refusal(1))? as usize;
+    let length = lent::number(rest).map_err(|_| refusal(1))?;
+    let length = usize::try_from(length).map_err(|_| refusal(1))?;
     if length > genesis::LONGEST {
         return Err(refusal(1));
     }
@@ -74,7 +81,7 @@ fn lines(now: Slot, report: &Report) -> String {
 #[cfg(test)]
 mod tests {
     use super::*;
-    use crate::number;
+    use crate::number::{self, LARGEST};
     use crate::samples::{self, Case, BAD_NOWS, BLOCK};
 
     fn call(case: &mut Case) -> Option<Refusal> {
@@ -92,7 +99,7 @@ mod tests {
             assert_eq!(report.held, BlockCount(1));
             assert_eq!(report.settled, BlockCount(settled));
             assert_eq!(report.settled_length, BLOCK * settled as usize);
-            assert_eq!(report.releases[2], 40 + settled);
+            assert_eq!(report.releases[2], 40 + u64::from(settled));
         }
     }
 
@@ -104,7 +111,7 @@ mod tests {
         for (now, settled) in [(9, 3), (10, 3), (11, 4), (13, 4), (14, 5), (256, 5)] {
             let report = report(&genesis, Slot(now), &held, held.len()).unwrap();
             let mut releases = samples::genesis(6, 1, 5).releases;
-            releases[2] += settled;
+            releases[2] += u64::from(settled);
             let expected = Report {
                 held: BlockCount(5),
                 settled: BlockCount(settled),
@@ -150,8 +157,8 @@ mod tests {
 
     /// The program's input.
     fn input(genesis: &[u8], now: u32, held: &[u8]) -> Vec<u8> {
-        let length = number::bytes(genesis.len() as u32);
-        [&length, genesis, &number::bytes(now), held].concat()
+        let length = number::bytes(genesis.len() as u64);
+        [&length, genesis, &number::bytes(now.into()), held].concat()
     }
 
     /// 01's worked example, byte for byte.
@@ -168,12 +175,13 @@ mod tests {
     #[test]
     fn one_line_for_each_display_not_at_0() {
         let mut table = samples::genesis(1, 0, 1);
-        table.releases[63] = u32::MAX;
+        table.releases[63] = LARGEST;
+        table.releases[62] = 1 << 32;
         table.releases[10] = 1;
         let genesis = table.bytes();
         let held = samples::good_chain(&genesis);
         let output = station(&input(&genesis, 9, &held));
-        assert_eq!(output, "9 5 4\n2 44\n10 1\n63 4294967295\n");
+        assert_eq!(output, "9 5 4\n2 44\n10 1\n62 4294967296\n63 34359738367\n");
         table.releases = [0; 64];
         assert_eq!(station(&input(&table.bytes(), 256, &[])), "256 0 0\n");
     }
@@ -197,12 +205,14 @@ mod tests {
             &[][..],
             &[0x80],
             &[0x80, 0x00],
+            &[0xFF; 5],
             &[0xFF, 0xFF, 0xFF, 0xFF, 0x10],
             &[0xFF, 0xFF, 0xFF, 0xFF, 0x0F],
             &number::bytes(0),
             &number::bytes(1_316),
-            &number::bytes(genesis.len() as u32 - 1),
-            &number::bytes(genesis.len() as u32 + 1),
+            &number::bytes(genesis.len() as u64 - 1),
+            &number::bytes(genesis.len() as u64 + 1),
+            &number::bytes(genesis.len() as u64 + (1 << 32)),
         ] {
             let input = [length, &genesis, &[1; 2_000]].concat();
             assert_eq!(station(&input), "refused 1 0\n", "{length:02X?}");
@@ -212,17 +222,17 @@ mod tests {
     #[test]
     fn the_longest_genesis() {
         let mut table = samples::genesis(31, 6, 64);
-        table.releases = [u32::MAX; 64];
+        table.releases = [LARGEST; 64];
         let output = station(&input(&table.bytes(), 256, &[]));
         assert_eq!(output.lines().count(), 65);
-        assert!(output.starts_with("256 0 0\n0 4294967295\n1 4294967295\n"));
+        assert!(output.starts_with("256 0 0\n0 34359738367\n1 34359738367\n"));
     }
 
     #[test]
     fn a_bad_genesis_before_a_bad_now() {
         for (fault, genesis) in samples::bad_geneses() {
             for now in [&[][..], &[0x80, 0x00], &[0], &[1]] {
-                let length = number::bytes(genesis.len() as u32);
+                let length = number::bytes(genesis.len() as u64);
                 let input = [&length, &genesis[..], now].concat();
                 assert_eq!(station(&input), "refused 1 0\n", "{fault}");
             }
@@ -232,7 +242,7 @@ mod tests {
     #[test]
     fn now_cut_badly_written_or_out_of_range() {
         let genesis = samples::table();
-        let start = [&number::bytes(genesis.len() as u32), &genesis[..]].concat();
+        let start = [&number::bytes(genesis.len() as u64), &genesis[..]].concat();
         let long = vec![1; chain::LONGEST + 1];
         for now in [
             &[][..],
@@ -240,6 +250,8 @@ mod tests {
             &[0x81, 0x00],
             &[0xFF; 5],
             &[0xFF, 0xFF, 0xFF, 0xFF, 0x10],
+            &number::bytes((1 << 32) + 20),
+            &number::bytes(LARGEST),
         ] {
             assert_eq!(station(&[&start, now].concat()), "refused 2 0\n");
         }
@@ -267,7 +279,7 @@ mod tests {
     fn the_longest_chain() {
         let (genesis, held) = samples::longest_chain(256);
         let output = station(&input(&genesis, 256, &held));
-        let release = (1 << 28) + 254;
+        let release = samples::LONG_START + 254;
         assert!(output.starts_with(&format!("256 256 254\n0 {release}\n")));
         assert_eq!(station(&input(&genesis, 255, &held)), "refused 17 256\n");
     }

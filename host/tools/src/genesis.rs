@@ -1,5 +1,7 @@
 //! A genesis as text, and as bytes.
-use ledger::{Genesis, DISPLAYS, GENESIS_BYTES, KEY_BYTES, SLOTS};
+use std::str::FromStr;
+
+use ledger::{Genesis, Release, DISPLAYS, GENESIS_BYTES, KEY_BYTES, LARGEST, SLOTS};
 
 use crate::Answer;
 
@@ -9,7 +11,7 @@ struct Text {
     n: Option<u32>,
     t: Option<u32>,
     u: Option<u32>,
-    releases: Vec<(usize, u32)>,
+    releases: Vec<(usize, Release)>,
     keys: Vec<[u8; KEY_BYTES]>,
 }
 
@@ -32,13 +34,13 @@ impl Text {
             ["n", value] => once(&mut self.n, value),
             ["t", value] => once(&mut self.t, value),
             ["u", value] => once(&mut self.u, value),
-            ["release", display, release] => self.release(number(display)?, number(release)?),
-            ["key", controller, digits] => self.key(number(controller)?, digits),
+            ["release", display, release] => self.release(small(display)?, number(release)?),
+            ["key", controller, digits] => self.key(small(controller)?, digits),
             _ => Err("not a line of a genesis".into()),
         }
     }
 
-    fn release(&mut self, display: u32, release: u32) -> Result<(), String> {
+    fn release(&mut self, display: u32, release: Release) -> Result<(), String> {
         let display = display as usize;
         if display >= DISPLAYS {
             return Err(format!("display {display}: displays are 0 to 63"));
@@ -77,16 +79,26 @@ impl Text {
 }
 
 fn once(value: &mut Option<u32>, word: &str) -> Result<(), String> {
-    match value.replace(number(word)?) {
+    match value.replace(small(word)?) {
         None => Ok(()),
         Some(_) => Err("this was said before".into()),
     }
 }
 
-pub fn number(word: &str) -> Result<u32, String> {
+/// A number that can be written.
+pub fn number(word: &str) -> Result<u64, String> {
+    let value = decimal(word).filter(|value| *value <= LARGEST);
+    value.ok_or(format!("{word} is not a number from 0 to {LARGEST}"))
+}
+
+/// A number of 32 bits: each but a release and a slot.
+fn small(word: &str) -> Result<u32, String> {
+    decimal(word).ok_or(format!("{word} is not a number from 0 to {}", u32::MAX))
+}
+
+fn decimal<T: FromStr>(word: &str) -> Option<T> {
     let plain = word.bytes().all(|byte| byte.is_ascii_digit());
-    let value = word.parse().ok().filter(|_| plain);
-    value.ok_or(format!("{word} is not a number from 0 to {}", u32::MAX))
+    word.parse().ok().filter(|_| plain)
 }
 
 fn key(digits: &str) -> Option<[u8; KEY_BYTES]> {
@@ -179,7 +191,7 @@ mod tests {
     fn there_and_back() {
         let keys = [[1; 32], [2; 32], [1; 32], [3; 32], [4; 32], [5; 32]];
         let mut releases = [0; DISPLAYS];
-        (releases[2], releases[63]) = (40, u32::MAX);
+        (releases[2], releases[62], releases[63]) = (40, 1 << 32, LARGEST);
         let mut out = [0; GENESIS_BYTES];
         let bytes = ledger::write_genesis(1, 64, &releases, &keys, &mut out).unwrap();
         let text = show(bytes).unwrap();
@@ -225,6 +237,20 @@ mod tests {
         ] {
             assert_eq!(changed(from, to), wrong);
         }
+    }
+
+    #[test]
+    fn releases_up_to_the_largest() {
+        let of = |release: &str| make(&TEXT.replace("release 0 7", release));
+        let large = [
+            &bytes()[..3],
+            &[0xFF, 0xFF, 0xFF, 0xFF, 0x7F],
+            &bytes()[4..],
+        ]
+        .concat();
+        assert_eq!(of("release 0 34359738367"), Ok(large));
+        let wrong = "line 5: 34359738368 is not a number from 0 to 34359738367";
+        assert_eq!(of("release 0 34359738368"), Err(wrong.into()));
     }
 
     #[test]

@@ -1,5 +1,6 @@
 //! What the report program reads: the genesis length as a number, the genesis, now as a number, and the held chain.
-use ledger::{blocks, read_number, write_number, Held, Refusal, Slot, GENESIS_BYTES, NUMBER_BYTES};
+use ledger::{blocks, read_number, write_number};
+use ledger::{BlockCount, Held, Kind, Refusal, Slot, GENESIS_BYTES, NUMBER_BYTES};
 
 use crate::{genesis, Answer};
 
@@ -7,24 +8,23 @@ use crate::{genesis, Answer};
 pub fn make(table: &[u8], now: &str, chain: &[u8]) -> Answer {
     genesis::show(table)?;
     let now = genesis::number(now)?;
-    Ok([&bytes_of(table.len() as u32), table, &bytes_of(now), chain].concat())
+    Ok([&bytes_of(table.len() as u64), table, &bytes_of(now), chain].concat())
 }
 
-fn bytes_of(value: u32) -> Vec<u8> {
+fn bytes_of(value: u64) -> Vec<u8> {
     let mut out = [0; NUMBER_BYTES];
-    let length = write_number(value, 0, &mut out).expect("five bytes are enough");
+    let length = write_number(value, 0, &mut out).expect("a number that can be written");
     out[..length].to_vec()
 }
 
 /// An input in words, as far as it can be read, and what the report refuses.
 pub fn show(input: &[u8]) -> Result<String, String> {
-    let (length, at) = part("the genesis length", read_number(input, 0))?;
-    let length = length as usize;
-    if length > GENESIS_BYTES {
-        return Err(format!(
-            "the genesis length is {length}: a genesis has at most {GENESIS_BYTES} bytes"
-        ));
-    }
+    let (said, at) = part("the genesis length", read_number(input, 0))?;
+    let length = usize::try_from(said).ok();
+    let length = length.filter(|length| *length <= GENESIS_BYTES);
+    let length = length.ok_or(format!(
+        "the genesis length is {said}: a genesis has at most {GENESIS_BYTES} bytes"
+    ))?;
     let rest = &input[at..];
     let (table, rest) = rest.split_at_checked(length).ok_or(format!(
         "the genesis is cut: {} of its {length} bytes are there",
@@ -35,10 +35,20 @@ pub fn show(input: &[u8]) -> Result<String, String> {
     text += &format!("now {now}\n");
     let chain = &rest[at..];
     text += &shown(chain);
-    if let Err(refused) = Held::stored(chain, chain.len()).report(table, Slot(now)) {
+    if let Err(refused) = reported(table, now, chain) {
         text += &format!("{refused}\n");
     }
     Ok(text)
+}
+
+/// Whether there is a report. A slot that 32 bits do not hold is no slot, as 257 is none.
+fn reported(table: &[u8], now: u64, chain: &[u8]) -> Result<(), Refusal> {
+    let now = u32::try_from(now).map_err(|_| Refusal {
+        kind: Kind::BadClock,
+        place: BlockCount(0),
+    })?;
+    let held = Held::stored(chain, chain.len());
+    held.report(table, Slot(now)).map(|_| ())
 }
 
 fn part<T>(name: &str, read: Result<T, Refusal>) -> Result<T, String> {
@@ -98,6 +108,22 @@ mod tests {
         let behind = "now 3\nblock 1 of slot 2, 165 bytes\n    display 2 from 40 to 41\n\
             refused 17 1: the held chain is bad: put its length to 0 and take the next whole chain\n";
         assert_eq!(text, format!("{SHOWN}{behind}"));
+    }
+
+    /// 256, 257, and two that are 1 in their lowest 32 bits or all ones.
+    #[test]
+    fn slots() {
+        let refused = "refused 2 0: the slot is not 1 to 256\n";
+        for (now, told) in [
+            ("256", ""),
+            ("257", refused),
+            ("4294967297", refused),
+            ("34359738367", refused),
+        ] {
+            let input = make(&sample()[1..100], now, &[]).unwrap();
+            assert_eq!(show(&input), Ok(format!("{SHOWN}now {now}\n{told}")));
+        }
+        assert!(make(&sample()[1..100], "34359738368", &[]).is_err());
     }
 
     #[test]

@@ -13,7 +13,7 @@ use second::order::{BlockCount, Order, Releases, Slot};
 use second::pool::{self, Pool};
 use second::report::{self, Report};
 use second::samples::Case;
-use second::{adopt, chain, lent, number, refusal, sha256, walk, Refusal};
+use second::{adopt, chain, number, refusal, sha256, walk, Refusal};
 
 type Answer<T> = Result<T, Refusal>;
 
@@ -88,7 +88,7 @@ fn from(bytes: &[u8], at: usize) -> &[u8] {
     bytes.get(at..).unwrap_or(&[])
 }
 
-pub fn read_number(bytes: &[u8], at: usize) -> Answer<(u32, usize)> {
+pub fn read_number(bytes: &[u8], at: usize) -> Answer<(u64, usize)> {
     let answer = proved::read_number(bytes, at);
     let other = number::read(from(bytes, at)).map(|(value, length)| (value, at + length));
     same(
@@ -100,13 +100,13 @@ pub fn read_number(bytes: &[u8], at: usize) -> Answer<(u32, usize)> {
     answer
 }
 
-pub fn write_number(value: u32, buffer: &mut [u8], at: usize) -> Answer<usize> {
+pub fn write_number(value: u64, buffer: &mut [u8], at: usize) -> Answer<usize> {
     written(
         "write number",
         &[("value", &value), ("at", &at)],
         buffer,
         |buffer| proved::write_number(value, buffer, at),
-        |buffer| lent::put(&number::bytes(value), buffer, at).map(|length| at + length),
+        |buffer| number::write(value, buffer, at).map(|length| at + length),
     )
 }
 

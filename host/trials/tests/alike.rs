@@ -2,9 +2,10 @@
 use std::collections::BTreeSet;
 
 use second::chance::Chance;
-use second::order::Slot;
-use second::pool::Entry;
-use second::samples::{self, Case, BLOCK, STAMPS};
+use second::number::LARGEST;
+use second::order::{Release, Slot};
+use second::pool::{Entry, Pool};
+use second::samples::{self, block, entry, order, Case, BLOCK, FILLER, STAMPS};
 use trials::both::{self, CALLS};
 use trials::rounds::{all_are_made, rounds};
 
@@ -20,9 +21,44 @@ fn good() -> Case {
     let mut case = Case::good();
     case.held.truncate(case.held_length + 200);
     case.buffer.truncate(120);
-    case.pool.entries[1] = samples::entry(samples::order(2, 41, 42), 17);
-    case.pool.entries[2] = samples::entry(samples::order(99, 7, 7), 99);
+    case.pool.entries[1] = entry(order(2, 41, 42), 17);
+    case.pool.entries[2] = entry(order(99, 7, 7), 99);
     case
+}
+
+/// The same, but display 2 goes on from a release of 35 bits, up to the largest: each takes five bytes.
+fn large() -> Case {
+    let start = LARGEST - 5;
+    let mut table = samples::genesis(6, 1, 5);
+    table.releases[2] = start;
+    let genesis = table.bytes();
+    let numbered = (start..).zip(STAMPS);
+    let blocks: Vec<_> = numbered
+        .map(|(release, slot)| block(slot, &[order(2, release, release + 1)]))
+        .collect();
+    let mut held = samples::chain(&genesis, &samples::empty_blocks(&[1, 3]));
+    held.resize(held.len() + 200, FILLER);
+    let mut pool = Pool::of(&[entry(order(2, start, start + 1), 18)]);
+    pool.entries[1] = entry(order(2, LARGEST + 1, LARGEST + 1), 17);
+    Case {
+        held,
+        delivered: samples::chain(&genesis, &blocks),
+        pool,
+        order: order(2, start + 1, LARGEST),
+        genesis,
+        ..good()
+    }
+}
+
+/// Every call takes both, where the held chain has room for the delivered one.
+#[test]
+fn good_cases() {
+    for mut case in [good(), large()] {
+        case.held.resize(1_000, FILLER);
+        for call in &CALLS {
+            assert_eq!((call.make)(&mut case.clone()), None, "{}", call.name);
+        }
+    }
 }
 
 /// A part of a case that is bytes.
@@ -38,11 +74,13 @@ const PARTS: [Part; 5] = [
 
 #[test]
 fn cut_at_every_byte() {
-    for part in PARTS {
-        for end in 0..part(&mut good()).len() {
-            let mut case = good();
-            part(&mut case).truncate(end);
-            alike(&case);
+    for base in [good(), large()] {
+        for part in PARTS {
+            for end in 0..part(&mut base.clone()).len() {
+                let mut case = base.clone();
+                part(&mut case).truncate(end);
+                alike(&case);
+            }
         }
     }
     let chain = samples::good_chain(&samples::table());
@@ -104,26 +142,28 @@ fn every_size_of_a_station() {
     }
 }
 
-/// The numbers of a case that have 32 bits, the pool's entries up to one past the count among them.
+/// The numbers of a case that have 32 bits, those of the pool's entries up to one past the count among them.
 fn numbers(case: &mut Case) -> Vec<&mut u32> {
     let (order, pool) = (&mut case.order, &mut case.pool);
     let mut numbers = vec![
         &mut case.now.0,
         &mut case.controller,
         &mut order.display,
-        &mut order.expected,
-        &mut order.new,
         &mut pool.count,
     ];
     for Entry { order, slot } in &mut pool.entries[..2] {
-        numbers.extend([
-            &mut order.display,
-            &mut order.expected,
-            &mut order.new,
-            &mut slot.0,
-        ]);
+        numbers.extend([&mut order.display, &mut slot.0]);
     }
     numbers
+}
+
+/// The releases of a case, 64 bits each: offered, in the pool's entry, and in the one past its count.
+fn releases(case: &mut Case) -> Vec<&mut Release> {
+    let mut releases = vec![&mut case.order.expected, &mut case.order.new];
+    for Entry { order, .. } in &mut case.pool.entries[..2] {
+        releases.extend([&mut order.expected, &mut order.new]);
+    }
+    releases
 }
 
 /// Flips a bit of a case, all of whose arguments are taken as one row of bits. Past its end there is none to flip.
@@ -148,28 +188,91 @@ fn flip(case: &mut Case, bit: usize) -> Option<()> {
         return Some(());
     }
     rest -= 64;
+    if let Some(release) = releases(case).get_mut(rest / 64) {
+        **release ^= 1 << (rest % 64);
+        return Some(());
+    }
+    rest -= 64 * releases(case).len();
     let mut numbers = numbers(case);
     **numbers.get_mut(rest / 32)? ^= 1 << (rest % 32);
     Some(())
 }
 
-#[test]
-fn every_bit_and_two_bits_flipped() {
+/// Every bit of a case flipped, one after another: how many they are.
+fn every_bit_flipped(good: &Case) -> usize {
     let mut bits = 0;
-    let mut case = good();
+    let mut case = good.clone();
     while flip(&mut case, bits).is_some() {
         alike(&case);
         bits += 1;
-        case = good();
+        case = good.clone();
     }
-    assert!(bits > 14_000, "{bits}");
-    let mut chance = Chance::of_seed(8);
-    for _ in 0..rounds(6_000) {
-        let mut case = good();
-        for _ in 0..2 {
-            flip(&mut case, chance.below(bits)).unwrap();
+    bits
+}
+
+#[test]
+fn every_bit_and_two_bits_flipped() {
+    for (seed, base) in [(8, good()), (9, large())] {
+        let bits = every_bit_flipped(&base);
+        assert!(bits > 14_000, "{bits}");
+        let mut chance = Chance::of_seed(seed);
+        for _ in 0..rounds(6_000) {
+            let mut case = base.clone();
+            for _ in 0..2 {
+                flip(&mut case, chance.below(bits)).unwrap();
+            }
+            alike(&case);
         }
-        alike(&case);
+    }
+}
+
+/// Releases next to what 32 bits hold and to the largest.
+const EDGES: [Release; 10] = [
+    0,
+    (1 << 32) - 1,
+    1 << 32,
+    (1 << 32) + 41,
+    LARGEST - 4,
+    LARGEST,
+    LARGEST + 1,
+    1 << 36,
+    1 << 63,
+    u64::MAX,
+];
+
+/// Two releases of a case at once, and each of them alone.
+#[test]
+fn releases_at_their_edges() {
+    for base in [good(), large()] {
+        for (first, second) in (0..6).flat_map(|first| (0..6).map(move |second| (first, second))) {
+            for (one, other) in EDGES
+                .iter()
+                .flat_map(|one| EDGES.map(|other| (*one, other)))
+            {
+                let mut case = base.clone();
+                *releases(&mut case)[first] = one;
+                *releases(&mut case)[second] = other;
+                alike(&case);
+            }
+        }
+    }
+}
+
+/// What a release above the largest meets, by its place in `releases`: 5 if it is offered, 18 in the pool, and past its count nothing.
+#[test]
+fn releases_above_the_largest() {
+    let met = [Some(5), Some(5), Some(18), Some(18), None, None];
+    let with_pool = CALLS.iter().filter(|call| call.refusals.contains(&18));
+    for call in with_pool {
+        for (place, met) in met.into_iter().enumerate() {
+            let met = met.filter(|number| call.refusals.contains(number));
+            for above in [LARGEST + 1, 1 << 36, 1 << 63, u64::MAX] {
+                let mut case = large();
+                *releases(&mut case)[place] = above;
+                let refused = (call.make)(&mut case).map(|refused| refused.number);
+                assert_eq!(refused, met, "{}: {place}", call.name);
+            }
+        }
     }
 }
 
@@ -189,4 +292,40 @@ fn every_refusal_by_chance() {
         assert!(met.is_subset(&expected), "{}: {met:?}", call.name);
         assert!(!all_are_made() || met == expected, "{}: {met:?}", call.name);
     }
+}
+
+/// What a case by chance shows of releases that have more than 32 bits.
+#[derive(Debug, PartialEq, Eq, PartialOrd, Ord)]
+enum Shown {
+    /// Pooled.
+    Taken,
+    /// 5, and the display is there.
+    Offered,
+    /// 18, and nothing else is wrong with the pool.
+    Pooled,
+    /// A release above the largest past the pool's count, which does no harm.
+    PastTheCount,
+}
+
+fn shown(mut case: Case) -> Option<Shown> {
+    let (order, now, pool) = (case.order, case.now, case.pool.clone());
+    let met = case.offer(both::offer).map_err(|refused| refused.number);
+    let (within, past) = pool.entries.split_at_checked(pool.count as usize)?;
+    let placed = |entry: &Entry| entry.order.display < 64 && (Slot(1)..=now).contains(&entry.slot);
+    match met {
+        Err(5) if order.display < 64 => Some(Shown::Offered),
+        Err(18) if within.iter().all(placed) => Some(Shown::Pooled),
+        Ok(()) if past.iter().any(|entry| !entry.order.in_range()) => Some(Shown::PastTheCount),
+        Ok(()) if order.new > u32::MAX.into() => Some(Shown::Taken),
+        _ => None,
+    }
+}
+
+#[test]
+fn large_releases_by_chance() {
+    let mut chance = Chance::of_seed(10);
+    let met: BTreeSet<Shown> = (0..rounds(12_000))
+        .filter_map(|_| shown(chance.issuing()))
+        .collect();
+    assert!(!all_are_made() || met.len() == 4, "{met:?}");
 }

@@ -1,6 +1,6 @@
 //! What a host does when something has gone wrong with a controller: an outage, a damaged byte, a bad pool. n = 6 and t = 1, so a block is
 //! settled exactly if its slot + 4 < now.
-use second::order::{BlockCount, Slot};
+use second::order::{BlockCount, Releases, Slot};
 use second::pool::Pool;
 use second::report::Report;
 use second::samples::{at, entry, order};
@@ -63,7 +63,7 @@ impl Six {
     }
 
     /// What a controller reports settled: the blocks' bytes, and the releases after them.
-    fn settled(&self, number: u32, now: Slot) -> (Vec<u8>, [u32; 64]) {
+    fn settled(&self, number: u32, now: Slot) -> (Vec<u8>, Releases) {
         let report = self.report(number, now).unwrap();
         let bytes = &self.all[number as usize - 1].held[..report.settled_length];
         (bytes.to_vec(), report.releases)

@@ -4,9 +4,10 @@ use std::io::Write;
 use std::process::Stdio;
 use std::thread;
 
+use second::chain;
+use second::number::{self, LARGEST};
 use second::report::station;
 use second::samples::{self, block, order};
-use second::{chain, number};
 use trials::programs::{program, root};
 use trials::rounds::rounds;
 
@@ -39,19 +40,22 @@ fn same(name: &str, input: &[u8]) -> String {
 }
 
 fn input(genesis: &[u8], now: &[u8], held: &[u8]) -> Vec<u8> {
-    let length = number::bytes(genesis.len() as u32);
+    let length = number::bytes(genesis.len() as u64);
     [&length, genesis, now, held].concat()
 }
 
-/// Three displays, two of them changed: at slot 10 the block of slot 5 is settled, that of slot 6 is not.
+/// Several displays, at releases of up to 35 bits: at slot 10 the block of slot 5 is settled, that of slot 6 is not.
 fn several_displays() -> (Vec<u8>, Vec<u8>) {
     let mut table = samples::genesis(6, 1, 5);
     table.releases[0] = 7;
-    table.releases[63] = u32::MAX;
+    table.releases[63] = LARGEST;
     let genesis = table.bytes();
     let blocks = [
         block(2, &[order(2, 40, 41), order(9, 0, 3)]),
-        block(5, &[order(2, 41, 300), order(10, 0, 1)]),
+        block(
+            5,
+            &[order(2, 41, 300), order(10, 0, 1), order(12, 0, 1 << 32)],
+        ),
         block(6, &[order(2, 300, 301), order(9, 3, 4), order(11, 0, 5)]),
         block(10, &[]),
     ];
@@ -75,7 +79,7 @@ fn reports_by_hand() {
     );
     let (genesis, held) = several_displays();
     by_hand(
-        "10 4 2\n0 7\n2 300\n9 3\n10 1\n63 4294967295\n",
+        "10 4 2\n0 7\n2 300\n9 3\n10 1\n12 4294967296\n63 34359738367\n",
         &[(
             "settled and unsettled orders",
             input(&genesis, &[10], &held),
@@ -111,6 +115,9 @@ fn bad_starts_by_hand() {
             ("no now", then(&[])),
             ("now cut", then(&[0x80])),
             ("now 80 00", then(&[0x80, 0])),
+            ("now of five high bits", then(&[0x81; 5])),
+            ("now 4,294,967,297", then(&[0x81, 0x80, 0x80, 0x80, 0x10])),
+            ("now the largest", then(&[0xFF, 0xFF, 0xFF, 0xFF, 0x7F])),
         ],
     );
     by_hand(
@@ -123,6 +130,10 @@ fn bad_starts_by_hand() {
                 [&[0xE3, 0], &start[1..], &[1]].concat(),
             ),
             ("length 1,316", [&[0xA4, 0x0A][..], &[1; 1400]].concat()),
+            (
+                "length 4,294,967,395, which is not 99",
+                [&[0xE3, 0x80, 0x80, 0x80, 0x10], &start[1..], &[1]].concat(),
+            ),
             (
                 "too short for its genesis",
                 start[..start.len() - 1].to_vec(),
@@ -157,16 +168,18 @@ fn the_longest_input_with_an_answer() {
     let (genesis, held) = samples::longest_chain(256);
     let text = same("the longest chain", &input(&genesis, &[0x80, 2], &held));
     assert!(text.starts_with("256 256 254\n"), "{text}");
+    // 64 displays at releases of eleven digits
+    assert_eq!(text.len(), 12 + 10 * 14 + 54 * 15);
 }
 
 /// Inputs beyond what the program looks at.
 #[test]
 fn longer_inputs() {
     let mut table = samples::genesis(31, 6, 64);
-    table.releases = [u32::MAX; 64];
+    table.releases = [LARGEST; 64];
     let genesis = table.bytes();
     for size in [chain::LONGEST, chain::LONGEST + 1, 70_000, 1_000_000] {
-        for now in [&[0x80, 2][..], &[0xFF; 5], &[0xFF, 0xFF, 0xFF, 0xFF, 0x0F]] {
+        for now in [&[0x80, 2][..], &[0xFF; 5], &[0xFF, 0xFF, 0xFF, 0xFF, 0x7F]] {
             same(
                 &format!("{size} bytes"),
                 &input(&genesis, now, &vec![0; size]),

@@ -11,24 +11,24 @@ use borrow.Author.Needs.{needs}
 use Rattle.genesis.proofs.depth.Statement.{statement}
 use Rattle.genesis.proofs.depth.Tie as tie
 
+cast-n : tie.Need-cast-n
+cast-n c = search needs
+
+cast-t : tie.Need-cast-t
+cast-t c = search needs
+
 enough-requires : tie.Need-enough-requires
 enough-requires c κs = search needs
 
 returns : tie.Need-returns
 returns c = simp (sym (c .before .enough .ensures) ∙ not-true _ (c .if1 .taken))
 
-holds : (c : tie.After-struct-known2) → enough (c .before .before .before .before .args .table .n) (c .before .before .before .before .args .table .t) ≡ true
-holds c = sym (c .before .before .before .enough .ensures) ∙ not-false _ (c .before .before .if1 .left)
+holds : (c : tie.Else1) → enough (c .before .before .before .before .args .table .n) (c .before .before .before .before .args .table .t) ≡ true
+holds c = sym (c .before .enough .ensures) ∙ not-false _ (c .if1 .left)
 
-parts : (c : tie.After-struct-known2)
+parts : (c : tie.Else1)
     → (c .before .before .before .before .args .table .n ≤ 31) × (3 * c .before .before .before .before .args .table .t + 1 ≤ c .before .before .before .before .args .table .n)
 parts c = enough-parts _ _ (holds c)
-
-cast-n : tie.Need-cast-n
-cast-n c = search needs
-
-cast-t : tie.Need-cast-t
-cast-t c = search needs
 
 mul-times : tie.Need-mul-times
 mul-times c = search needs
@@ -61,10 +61,10 @@ pub depth-spec : {M : Type 1} → statement M
 depth-spec =
     tie.close
     (tie.spec
-    enough-requires
-    returns
     cast-n
     cast-t
+    enough-requires
+    returns
     mul-times
     mul-times-2
     sub-times

@@ -21,6 +21,9 @@ enum-told c = search needs
 enum-told-2 : tie.Need-enum-told-2
 enum-told-2 c = search needs
 
+cast-within : tie.Need-cast-within
+cast-within c = search needs
+
 within-requires : tie.Need-within-requires
 within-requires c κs = search needs
 
@@ -29,19 +32,19 @@ table-is : (c : tie.After-enum-told2)
 table-is c = sym (rw (c .enum-told2 .given .1) at (c .before .before .before .read .ensures .0))
 
 known : (c : tie.Then1)
-    → (1 ≤ c .before .before .before .before .before .before .before .args .controller)
-    × (c .before .before .before .before .before .before .before .args .controller ≤ c .before .before .before .before .before .read .result .table .n)
+    → (1 ≤ c .before .before .before .before .before .before .before .before .args .controller)
+    × (c .before .before .before .before .before .before .before .before .args .controller ≤ c .before .before .before .before .before .before .read .result .table .n)
 known c = within-true _ _ _ (sym (c .before .within .ensures) ∙ c .if1 .taken)
 
-sub-t10 : tie.Need-sub-t10
-sub-t10 c = known c .0
+sub-t12 : tie.Need-sub-t12
+sub-t12 c = known c .0
 
-mul-t11 : tie.Need-mul-t11
-mul-t11 c = search needs
+mul-t13 : tie.Need-mul-t13
+mul-t13 c = search needs
 
-add-t12 : tie.Need-add-t12
-add-t12 c =
-    let told = c .before .before .before in
+add-t14 : tie.Need-add-t14
+add-t14 c =
+    let told = c .before .before .before .before in
     let fine = sound _ _ (table-is told) in
     let is = known (c .before) in
     omega (arith, fine .whole, fine .few)
@@ -54,12 +57,12 @@ returns c =
 
 returns-2 : tie.Need-returns-2
 returns-2 c =
-    let told = c .before .before .before in
+    let told = c .before .before .before .before in
     rw (table-is told) (simp (sym (c .before .before .within .ensures) ∙ c .before .if1 .taken))
 
 returns-3 : tie.Need-returns-3
 returns-3 c =
-    let told = c .before .before in
+    let told = c .before .before .before in
     let outside = sym (c .before .within .ensures) ∙ c .if1 .left in
     rw (table-is told) (simp outside)
 
@@ -70,10 +73,11 @@ find-key-spec =
     read-requires
     enum-told
     enum-told-2
+    cast-within
     within-requires
-    sub-t10
-    mul-t11
-    add-t12
+    sub-t12
+    mul-t13
+    add-t14
     returns
     returns-2
     returns-3)

@@ -1,9 +1,8 @@
 -- `number::length` meets its contract: each branch says between which powers of 128 the number lies.
 -- Assumes nothing.
 use mathlib.Core.Path.{sym}
-use native.Mathlib.Omega.{arith}
 use lib.Dec.{lit≤}
-use Rattle.number.proofs.Written.{shortest, sized}
+use Rattle.number.proofs.Written.{shortest, sized, longest}
 use Rattle.number.proofs.length.Statement.{statement}
 use Rattle.number.proofs.length.Tie as tie
 
@@ -20,7 +19,7 @@ returns-4 : tie.Need-returns-4
 returns-4 c = sym (sized 2 (c .before .before .before .before .args .value) (c .before .if3 .left) (c .if4 .taken) (lit≤ tt))
 
 returns-5 : tie.Need-returns-5
-returns-5 c = sym (sized 3 (c .before .before .before .before .args .value) (c .if4 .left) (omega arith) (lit≤ tt))
+returns-5 c = sym (longest (c .before .before .before .before .args .value) (c .if4 .left))
 
 pub length-spec : {M : Type 1} → statement M
 length-spec = tie.close (tie.spec returns returns-2 returns-3 returns-4 returns-5)

@@ -20,7 +20,7 @@ abbrev μ-loop : tie.MeasureT-loop
 μ-loop out₀ at value place₀ left₀ out place left = left
 
 loop-holds : tie.Need-loop-holds Inv-loop μ-loop
-loop-holds c = (omega arith, refl, c .pre, refl)
+loop-holds c = (omega (arith, c .pre .0), refl, c .pre .1, refl)
 
 -- in a turn one byte goes out, and the others fit behind it
 one-more : (c : tie.In-loop Inv-loop μ-loop)

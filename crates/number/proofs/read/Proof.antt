@@ -16,11 +16,8 @@ shared-slice-read-first c = search needs
 cast-first : tie.Need-cast-first
 cast-first c = omega (arith, c .shared-slice-known2 .given (c .before .before .before .args .at))
 
-cast-t8 : tie.Need-cast-t8
-cast-t8 c = search needs
-
-add-t9 : tie.Need-add-t9
-add-t9 c = search needs
+add-t8 : tie.Need-add-t8
+add-t8 c = search needs
 
 returns-2 : tie.Need-returns-2
 returns-2 c = sym (number-one _ _ (c .before .before .if1 .left) (c .if2 .taken))
@@ -29,7 +26,7 @@ add-rest : tie.Need-add-rest
 add-rest c = search needs
 
 rest-requires : tie.Need-rest-requires
-rest-requires c κs = omega (arith, c .before .shared-slice-known2 .given (c .before .before .before .before .args .at))
+rest-requires c κs = omega arith
 
 returns-3 : tie.Need-returns-3
 returns-3 c = c .rest .ensures ∙ sym (number-more _ _ (c .before .before .before .if1 .left) (c .before .if2 .left))
@@ -41,8 +38,7 @@ read-spec =
     returns
     shared-slice-read-first
     cast-first
-    cast-t8
-    add-t9
+    add-t8
     returns-2
     add-rest
     rest-requires

@@ -1,19 +1,22 @@
--- `number::write` meets its contract: its test says whether the number's bytes fit.
+-- `number::write` meets its contract: its tests say whether the number is one, and whether its bytes fit.
 -- Assumes nothing.
-use mathlib.Core.Path.{_≡_, _∙_, ap, sym}
+use mathlib.Core.Path.{_≡_, refl, _∙_, ap, sym}
+use mathlib.Core.Bool.{true}
 use Prim.Native.Nat.{ℕ, _+_, _≤_}
 use native.Mathlib.Omega.{arith}
 use lib.Dec.{leb}
 use lib.ListN.{length}
 use denote.Ref.{now}
 use borrow.Author.Needs.{needs}
-use borrow.Author.Tests.{leb-true, leb-false}
-use Rattle.laws.specs.Told.{gives}
-use Rattle.laws.specs.Placed.{fits}
-use Rattle.laws.proofs.Placed.{too-short, with-room}
-use Rattle.number.specs.Number.{written}
+use borrow.Author.Tests.{le-leb, lt-leb, not-true, not-false}
+use Rattle.laws.specs.Placed.{Room}
+use Rattle.laws.proofs.Placed.{judged-refused, judged-short, judged-wrote, enough-room, too-little}
+use Rattle.number.specs.Number.{largest, written}
 use Rattle.number.proofs.write.Statement.{statement}
 use Rattle.number.proofs.write.Tie as tie
+
+returns : tie.Need-returns
+returns c = let a = c .before .before .args in judged-refused _ 4 (now (a .out)) (a .at) (written (a .value)) (lt-leb _ _ (c .if1 .taken))
 
 length-requires : tie.Need-length-requires
 length-requires c κs = search needs
@@ -21,40 +24,51 @@ length-requires c κs = search needs
 fits-requires : tie.Need-fits-requires
 fits-requires c κs = search needs
 
--- the test is the definition's
-tested : (c : tie.After-fits2)
-    → c .fits2 .result ≡ fits (now (c .before .before .before .args .out)) (c .before .before .before .args .at) (written (c .before .before .before .args .value))
-tested c =
-    let a = c .before .before .before .args in
-    c .fits2 .ensures ∙ ap (λ (n : ℕ). leb (a .at + n) (length (now (a .out)))) (c .before .length .ensures)
+-- a number that is not above the largest
+small : (c : tie.Else1) → leb (c .before .before .args .value) largest ≡ true
+small c = le-leb _ _ (c .if1 .left)
 
-room : (c : tie.Then1)
-    → c .before .before .before .before .args .at + length (written (c .before .before .before .before .args .value))
-    ≤ length (now (c .before .before .before .before .args .out))
-room c = leb-true _ _ (sym (tested (c .before)) ∙ c .if1 .taken)
+returns-2 : tie.Need-returns-2
+returns-2 c =
+    let a = c .before .before .before .before .before .args in
+    let size = c .before .before .length in
+    let short = too-little (now (a .out)) (a .at) (size .result) (written (a .value)) (size .ensures) (sym (c .before .fits2 .ensures) ∙ not-true _ (c .if2 .taken)) in
+    judged-short _ 4 (now (a .out)) (a .at) (written (a .value)) (small (c .before .before .before)) short
+
+room : (c : tie.Else2)
+    → Room (now (c .before .before .before .before .before .args .out)) (c .before .before .before .before .before .args .at)
+    (written (c .before .before .before .before .before .args .value))
+room c =
+    let a = c .before .before .before .before .before .args in
+    let size = c .before .before .length in
+    enough-room (now (a .out)) (a .at) (size .result) (written (a .value)) (size .ensures) (sym (c .before .fits2 .ensures) ∙ not-false _ (c .if2 .left))
 
 put-requires : tie.Need-put-requires
-put-requires c κs = room (c .before)
+put-requires c κs = (c .before .before .before .before .if1 .left, room (c .before) .enough)
 
-add-t11 : tie.Need-add-t11
-add-t11 c = let inside = c .before .before .before .before in omega (arith, room inside, inside .before .before .length .ensures)
+add-t6 : tie.Need-add-t6
+add-t6 c = let inside = c .before .before .before .before in omega (arith, room inside .enough, inside .before .before .length .ensures)
 
 same-length : tie.Need-same-length
 same-length c = search needs
 
-returns : tie.Need-returns
-returns c =
+returns-3 : tie.Need-returns-3
+returns-3 c =
     let inside = c .before .before .before .before in
-    let a = inside .before .before .before .before .args in
-    let done = with-room (now (a .out)) (a .at) (written (a .value)) (room inside) in
-    (ap (λ (n : ℕ). gives (a .at + n)) (inside .before .before .length .ensures) ∙ done .0, c .before .before .put .ensures ∙ done .1)
-
-returns-2 : tie.Need-returns-2
-returns-2 c =
-    let a = c .before .before .before .before .args in
-    too-short (now (a .out)) (a .at) (written (a .value)) (leb-false _ _ (sym (tested (c .before)) ∙ c .if1 .left))
+    let a = inside .before .before .before .before .before .args in
+    let size = inside .before .before .length in
+    judged-wrote _ 4 (now (a .out)) (a .at) (written (a .value)) _ _ (small (inside .before .before .before)) (room inside)
+    (record { place = ap (λ (n : ℕ). a .at + n) (size .ensures); buffer = c .before .before .put .ensures })
 
 pub write-spec : {M : Type 1} → statement M
 write-spec =
     tie.close
-    (tie.spec length-requires fits-requires put-requires add-t11 same-length returns returns-2)
+    (tie.spec
+    returns
+    length-requires
+    fits-requires
+    returns-2
+    put-requires
+    add-t6
+    same-length
+    returns-3)

@@ -36,9 +36,6 @@ returns-2 c =
     let size = c .before .before in
     (start-long (now (size .before .before .before .before .args .input)) (size .size .given .0 .0) (size .size .given .0 .1 .0) (size-is size) (c .if1 .taken), tt)
 
-cast-fits : tie.Need-cast-fits
-cast-fits c = search needs
-
 fits-requires : tie.Need-fits-requires
 fits-requires c κs = search needs
 
@@ -48,9 +45,6 @@ returns-3 c =
     let size = small .before .before in
     let short = leb-false _ _ (sym (c .before .fits2 .ensures) ∙ not-true _ (c .if2 .taken)) in
     (start-short (now (size .before .before .before .before .args .input)) (size .size .given .0 .0) (size .size .given .0 .1 .0) (size-is size) (small .if1 .left) short, tt)
-
-cast-to : tie.Need-cast-to
-cast-to c = search needs
 
 -- the genesis ends within the input
 enough : (c : tie.Else2)
@@ -111,10 +105,8 @@ genesis-at-spec =
     enum-known-size
     returns
     returns-2
-    cast-fits
     fits-requires
     returns-3
-    cast-to
     add-to
     sub-read
     part-read-start

@@ -3,7 +3,8 @@ use super::Chance;
 use crate::block::Block;
 use crate::chain::LONGEST;
 use crate::genesis::Genesis;
-use crate::order::{Order, Releases, Slot};
+use crate::number::LARGEST;
+use crate::order::{Order, Release, Releases, Slot};
 use crate::samples::{self, Case, FILLER};
 use crate::sha256;
 
@@ -53,7 +54,7 @@ impl Chance {
         ]);
         let mut table = samples::genesis(n, t, u);
         for display in [0, 1, 63] {
-            table.releases[display] = self.number();
+            table.releases[display] = self.release();
         }
         table
     }
@@ -83,16 +84,27 @@ impl Chance {
     pub fn order_at(&mut self, releases: &mut Releases) -> Order {
         let display = self.of(&[0, 1, 2, 3, 63]);
         let release = &mut releases[display as usize];
-        let more = 1 + self.below(200) as u32;
-        let mut order = samples::order(display, *release, release.saturating_add(more));
+        let new = self.release_above(*release);
+        let mut order = samples::order(display, *release, new);
         *release = order.new;
-        match self.below(150) {
+        match self.below(250) {
             0 => order.expected ^= 1,
             1 => order.new = order.expected,
             2 => order.display ^= 1,
+            3 => order.expected ^= 1 << 32,
+            4 => order.new = self.above(),
             _ => (),
         }
         order
+    }
+
+    /// A release a little above another, or now and then above 32 bits, and never above the largest.
+    fn release_above(&mut self, release: Release) -> Release {
+        let more = match self.below(20) {
+            0 => 1 << 32,
+            _ => 1 + self.below(200) as Release,
+        };
+        (release + more).min(LARGEST)
     }
 
     /// A clock reading near the last stamps.
@@ -101,7 +113,7 @@ impl Chance {
         let later = last(ours).max(last(theirs));
         let near = [last(ours), last(theirs), later + 5, 256];
         Slot(match self.below(16) {
-            0 => self.number(),
+            0 => self.small(),
             1 => self.within(1, 256),
             2..=5 => self.of(&near).clamp(1, 256),
             _ => (later + 1).min(256),

@@ -4,12 +4,12 @@ mod pools;
 
 use crate::block::Block;
 use crate::genesis::Genesis;
-use crate::number;
-use crate::order::{Order, Slot};
+use crate::number::{self, LARGEST};
+use crate::order::{Order, Release, Slot};
 use crate::samples;
 
-/// Numbers near the edges of the ranges and of the written lengths.
-const EDGES: [u32; 20] = [
+/// Numbers near the edges of the ranges and of the written lengths, of 32 bits and of the largest number.
+const EDGES: [u64; 27] = [
     0,
     1,
     2,
@@ -29,7 +29,14 @@ const EDGES: [u32; 20] = [
     16_384,
     65_537,
     1 << 28,
-    u32::MAX,
+    (1 << 32) - 1,
+    1 << 32,
+    (1 << 32) + 6,
+    LARGEST - 1,
+    LARGEST,
+    LARGEST + 1,
+    LARGEST + 7,
+    u64::MAX,
 ];
 
 /// A generator of chance (xorshift), the same numbers for the same seed.
@@ -60,18 +67,43 @@ impl Chance {
         self.below(bound) == 0
     }
 
-    pub fn number(&mut self) -> u32 {
-        if self.once_in(3) {
-            self.next() as u32
-        } else {
-            self.of(&EDGES)
+    /// A number of up to 64 bits.
+    pub fn number(&mut self) -> u64 {
+        match self.below(9) {
+            0 => self.next(),
+            1 | 2 => self.next() & LARGEST,
+            _ => self.of(&EDGES),
         }
+    }
+
+    /// The lowest 32 bits of such a number.
+    pub fn small(&mut self) -> u32 {
+        let [a, b, c, d, ..] = self.number().to_le_bytes();
+        u32::from_le_bytes([a, b, c, d])
+    }
+
+    /// A release that can be written.
+    pub fn release(&mut self) -> Release {
+        self.number() & LARGEST
+    }
+
+    /// A release that can be written, but for one time in thirty.
+    fn any_release(&mut self) -> Release {
+        match self.below(30) {
+            0 => self.above(),
+            _ => self.release(),
+        }
+    }
+
+    /// A release that is above the largest.
+    pub fn above(&mut self) -> Release {
+        self.number().saturating_add(LARGEST + 1)
     }
 
     /// A number that is in its range, but for one time in sixty.
     pub fn within(&mut self, least: u32, most: u32) -> u32 {
         if self.once_in(60) {
-            return self.number();
+            return self.small();
         }
         least + self.below((most - least + 1) as usize) as u32
     }
@@ -85,7 +117,7 @@ impl Chance {
     }
 
     pub fn order(&mut self) -> Order {
-        samples::order(self.within(0, 63), self.number(), self.number())
+        samples::order(self.within(0, 63), self.any_release(), self.any_release())
     }
 
     pub fn block(&mut self) -> Block {
@@ -108,7 +140,7 @@ impl Chance {
             n,
             t,
             u: self.within(1, 64),
-            releases: std::array::from_fn(|_| if self.once_in(4) { self.number() } else { 0 }),
+            releases: std::array::from_fn(|_| if self.once_in(4) { self.release() } else { 0 }),
             keys: (0..n.min(64)).map(|_| self.array()).collect(),
         }
     }

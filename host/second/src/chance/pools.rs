@@ -2,7 +2,8 @@
 use super::Chance;
 use crate::chain;
 use crate::genesis::Opening;
-use crate::order::{Order, Releases};
+use crate::number::LARGEST;
+use crate::order::{Order, Release, Releases};
 use crate::pool::{Entry, Pool};
 use crate::samples::{self, Case, FILLER};
 
@@ -19,8 +20,11 @@ impl Chance {
         }
         case.pool = self.pool(case.now.0, &mut releases);
         case.order = self.offered(&mut releases);
-        if self.once_in(30) {
-            case.order.display = self.number();
+        match self.below(90) {
+            0..=2 => case.order.display = self.small(),
+            3 => case.order.expected = self.above(),
+            4 => case.order.new = self.above(),
+            _ => (),
         }
         case.controller = opening.genesis.turn(case.now) + u32::from(self.once_in(20));
         let room = case.held.len() + self.of(&[0, 170, 251, 300]);
@@ -47,9 +51,14 @@ impl Chance {
             })
             .collect();
         let mut pool = Pool::of(&entries);
+        let place = self.below(64);
         match self.below(40) {
             0 => pool.count = self.within(0, 64),
-            1 => pool.entries[self.below(64)] = samples::entry(self.order(), self.number()),
+            1 => pool.entries[place] = samples::entry(self.order(), self.small()),
+            // behind the count, most often
+            2 => pool.entries[place].order.expected = self.above(),
+            3 => pool.entries[0].order.expected = self.above(),
+            4 => pool.entries[0].order.new = self.above(),
             _ => (),
         }
         pool
@@ -59,7 +68,7 @@ impl Chance {
     fn offered(&mut self, releases: &mut Releases) -> Order {
         let display = self.below(5) * 15;
         let expected = releases[display];
-        let new = expected.saturating_add(self.below(3) as u32);
+        let new = (expected + self.below(3) as Release).min(LARGEST);
         releases[display] = self.of(&[new, new, new, expected]);
         samples::order(display as u32, expected, new)
     }

@@ -8,6 +8,7 @@ use super::{
 use crate::calls::{Adopt, Append, Check, Choose, Offer, Report, Write};
 use crate::chain::LONGEST;
 use crate::issue::Issue;
+use crate::number::LARGEST;
 use crate::order::{BlockCount, Order, Releases, Slot};
 use crate::pool::Pool;
 use crate::{refusal, report, Refusal};
@@ -194,6 +195,32 @@ pub fn issuing_faults() -> Vec<Fault> {
             case.buffer.clear();
         }),
     ]
+}
+
+/// These faults, where a release above the largest is what is wrong with the pool and with an offer: the expected one in the pool and the new
+/// one in the offer, and the other way round.
+pub fn of_releases(faults: &[Fault]) -> [Vec<Fault>; 2] {
+    let expected = with(faults, 18, |case| {
+        case.pool.entries[0].order.expected = LARGEST + 1
+    });
+    let new = with(faults, 18, |case| {
+        case.pool.entries[0].order.new = LARGEST + 1
+    });
+    [
+        with(&expected, 5, |case| case.order.new = LARGEST + 1),
+        with(&new, 5, |case| case.order.expected = LARGEST + 1),
+    ]
+}
+
+/// These faults, where another one is met with this number.
+fn with(faults: &[Fault], number: u32, other: fn(&mut Case)) -> Vec<Fault> {
+    faults
+        .iter()
+        .map(|(refused, fault)| match refused.number == number {
+            true => (*refused, other),
+            false => (*refused, *fault),
+        })
+        .collect()
 }
 
 /// Makes every choice of the faults, given in the order of refusals, and sees that the call refuses with the earliest of them and leaves the

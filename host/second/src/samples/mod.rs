@@ -6,7 +6,8 @@ pub use case::*;
 use super::block::Block;
 use super::chain;
 use super::genesis::Genesis;
-use super::order::{Order, Slot};
+use super::number::{self, LARGEST};
+use super::order::{Order, Release, Slot};
 use super::pool::{Entry, Pool, ROOM};
 use super::{sha256, Refusal};
 
@@ -56,33 +57,44 @@ pub fn worked_genesis() -> Genesis {
     }
 }
 
+/// Genesis bytes with any three numbers at their front, and as many keys as a reader would want who keeps n in one byte.
+pub fn headed(n: u64, t: u64, u: u64) -> Vec<u8> {
+    let Genesis { releases, keys, .. } = genesis(n.to_le_bytes()[0].into(), 0, 1);
+    let numbers = [n, t, u].into_iter().chain(releases);
+    let mut bytes: Vec<u8> = numbers.flat_map(number::bytes).collect();
+    bytes.extend(keys.as_flattened());
+    bytes
+}
+
+/// n, t and u that are out of their ranges. None may wrap into it.
+pub const BAD_HEADS: [(u64, u64, u64); 21] = [
+    (0, 0, 1),
+    (32, 0, 1),
+    (257, 0, 1),
+    (4_294_967_295, 0, 1),
+    (4_294_967_302, 1, 5),
+    (1, 1, 1),
+    (3, 1, 1),
+    (6, 2, 1),
+    (30, 10, 1),
+    (31, 11, 1),
+    (6, 257, 1),
+    (1, 1_431_655_765, 1),
+    (31, 1_431_655_766, 1),
+    (31, 4_294_967_295, 1),
+    (6, 4_294_967_297, 5),
+    (31, LARGEST, 1),
+    (6, 1, 0),
+    (6, 1, 65),
+    (6, 1, 320),
+    (6, 1, 4_294_967_295),
+    (6, 1, 4_294_967_301),
+];
+
 /// Genesis bytes whose n, t or u is out of its range.
 fn bad_heads() -> Vec<(String, Vec<u8>)> {
-    [
-        (0, 0, 1),
-        (32, 0, 1),
-        (257, 0, 1),
-        (u32::MAX, 0, 1),
-        (3, 1, 1),
-        (6, 2, 1),
-        (30, 10, 1),
-        (31, 11, 1),
-        (6, 257, 1),
-        (1, 1_431_655_765, 1),
-        (31, 1_431_655_766, 1),
-        (31, u32::MAX, 1),
-        (6, 1, 0),
-        (6, 1, 65),
-        (6, 1, 320),
-        (6, 1, u32::MAX),
-    ]
-    .map(|(n, t, u)| {
-        // as many keys as a reader would want who keeps n in one byte
-        let mut table = genesis(n & 0xFF, t, u);
-        table.n = n;
-        (format!("n = {n}, t = {t}, u = {u}"), table.bytes())
-    })
-    .into()
+    let named = |(n, t, u)| (format!("n = {n}, t = {t}, u = {u}"), headed(n, t, u));
+    BAD_HEADS.map(named).into()
 }
 
 /// Genesis bytes that break a rule, and which.
@@ -95,7 +107,7 @@ pub fn bad_geneses() -> Vec<(String, Vec<u8>)> {
     for place in 0..3 + 64 {
         let tail = &good[place + 1..];
         let long = [&good[..place], &[good[place] | 0x80, 0], tail].concat();
-        let large = [&good[..place], &[0xFF, 0xFF, 0xFF, 0xFF, 0x10], tail].concat();
+        let large = [&good[..place], &[0xFF; 5], tail].concat();
         bad.push((format!("number {place} not shortest"), long));
         bad.push((format!("number {place} too large"), large));
     }
@@ -114,7 +126,7 @@ pub fn at(number: u32, place: usize) -> Refusal {
 }
 
 /// An order.
-pub fn order(display: u32, expected: u32, new: u32) -> Order {
+pub fn order(display: u32, expected: Release, new: Release) -> Order {
     Order {
         display,
         expected,
@@ -185,15 +197,17 @@ pub fn verdicts(blocks: usize) -> Vec<u8> {
     vec![3; blocks]
 }
 
+/// Where the releases of the longest chains start: with a block in every slot they end at the largest.
+pub const LONG_START: Release = LARGEST - 256;
+
 /// The longest good chain that ends at slot `last`, and its table: in each block 8 orders of 11 bytes.
 pub fn longest_chain(last: u32) -> (Vec<u8>, Vec<u8>) {
-    let start = 1 << 28;
     let mut table = genesis(1, 0, 1);
-    table.releases = [start; 64];
+    table.releases = [LONG_START; 64];
     let genesis = table.bytes();
     let blocks: Vec<Block> = (1..=last)
         .map(|slot| {
-            let release = start + slot - 1;
+            let release = LONG_START + Release::from(slot) - 1;
             let orders: Vec<Order> = (0..8)
                 .map(|display| order(display, release, release + 1))
                 .collect();
@@ -225,27 +239,31 @@ fn put(bytes: &mut Vec<u8>, place: usize, number: &[u8]) {
 
 /// Faults of one block. Those with 6 need a block before it.
 #[rustfmt::skip]
-pub const EDITS: [Edit; 31] = [
+pub const EDITS: [Edit; 36] = [
     Edit { name: "count not shortest", number: 4, change: |b| put(b, COUNT, &[0x81, 0x00]) },
     Edit { name: "count 80 00", number: 4, change: |b| put(b, COUNT, &[0x80, 0x00]) },
-    Edit { name: "count too large", number: 4, change: |b| put(b, COUNT, &[0xFF, 0xFF, 0xFF, 0xFF, 0x10]) },
-    Edit { name: "count of five high bits", number: 4, change: |b| put(b, COUNT, &[0x81; 5]) },
+    Edit { name: "count too large", number: 4, change: |b| put(b, COUNT, &[0x81; 5]) },
     Edit { name: "display not shortest", number: 4, change: |b| put(b, DISPLAY, &[0x82, 0x00]) },
     Edit { name: "display C0 00", number: 4, change: |b| put(b, DISPLAY, &[0xC0, 0x00]) },
     Edit { name: "expected not shortest", number: 4, change: |b| put(b, EXPECTED, &[0xA8, 0x80, 0x00]) },
-    Edit { name: "expected too large", number: 4, change: |b| put(b, EXPECTED, &[0x80, 0x80, 0x80, 0x80, 0x10]) },
+    Edit { name: "expected of five bytes, not shortest", number: 4, change: |b| put(b, EXPECTED, &[0xFF, 0xFF, 0xFF, 0xFF, 0x00]) },
+    Edit { name: "expected too large", number: 4, change: |b| put(b, EXPECTED, &[0x80; 5]) },
     Edit { name: "new not shortest", number: 4, change: |b| put(b, NEW, &[0x80 | 41, 0x00]) },
     Edit { name: "new too large", number: 4, change: |b| put(b, NEW, &[0xFF; 5]) },
     Edit { name: "slot not shortest", number: 4, change: |b| put(b, SLOT, &[0x89, 0x00]) },
-    Edit { name: "slot too large", number: 4, change: |b| put(b, SLOT, &[0xFF, 0xFF, 0xFF, 0xFF, 0x7F]) },
+    Edit { name: "slot too large", number: 4, change: |b| put(b, SLOT, &[0xFF; 5]) },
     Edit { name: "count 9", number: 5, change: |b| b[COUNT] = 9 },
     Edit { name: "count 257", number: 5, change: |b| put(b, COUNT, &[0x81, 0x02]) },
+    Edit { name: "count 4,294,967,297", number: 5, change: |b| put(b, COUNT, &[0x81, 0x80, 0x80, 0x80, 0x10]) },
     Edit { name: "display 64", number: 5, change: |b| b[DISPLAY] = 64 },
     Edit { name: "display 256", number: 5, change: |b| put(b, DISPLAY, &[0x80, 0x02]) },
     Edit { name: "display 4,294,967,295", number: 5, change: |b| put(b, DISPLAY, &[0xFF, 0xFF, 0xFF, 0xFF, 0x0F]) },
+    Edit { name: "display 4,294,967,298", number: 5, change: |b| put(b, DISPLAY, &[0x82, 0x80, 0x80, 0x80, 0x10]) },
     Edit { name: "slot 0", number: 5, change: |b| b[SLOT] = 0 },
     Edit { name: "slot 257", number: 5, change: |b| put(b, SLOT, &[0x81, 0x02]) },
     Edit { name: "slot 65,537", number: 5, change: |b| put(b, SLOT, &[0x81, 0x80, 0x04]) },
+    Edit { name: "slot 4,294,967,305", number: 5, change: |b| put(b, SLOT, &[0x89, 0x80, 0x80, 0x80, 0x10]) },
+    Edit { name: "slot 34,359,738,367", number: 5, change: |b| put(b, SLOT, &[0xFF, 0xFF, 0xFF, 0xFF, 0x7F]) },
     Edit { name: "slot 1 again", number: 6, change: |b| b[SLOT] = 1 },
     Edit { name: "slot just above now", number: 7, change: |b| b[SLOT] = 21 },
     Edit { name: "slot 256", number: 7, change: |b| put(b, SLOT, &[0x80, 0x02]) },
@@ -256,6 +274,7 @@ pub const EDITS: [Edit; 31] = [
     Edit { name: "new below expected", number: 10, change: |b| b[NEW] = b[EXPECTED] - 1 },
     Edit { name: "expected too low", number: 10, change: |b| b[EXPECTED] -= 1 },
     Edit { name: "expected too high", number: 10, change: |b| { b[EXPECTED] += 1; b[NEW] += 1 } },
+    Edit { name: "expected 4,294,967,296 too high", number: 10, change: |b| put(b, EXPECTED, &[0x80 | b[EXPECTED], 0x80, 0x80, 0x80, 0x10]) },
     Edit { name: "another display", number: 10, change: |b| b[DISPLAY] = 3 },
 ];
 
@@ -343,10 +362,20 @@ pub fn bad_pools() -> Vec<(String, Pool)> {
             pool.entries[place].slot = Slot(slot);
             bad.push((format!("entry {place}: slot {slot}"), pool));
         }
+        for above in [LARGEST + 1, u64::MAX] {
+            let [mut expected, mut new] = [good.clone(), good.clone()];
+            expected.entries[place].order.expected = above;
+            new.entries[place].order.new = above;
+            bad.push((format!("entry {place}: expected {above}"), expected));
+            bad.push((format!("entry {place}: new {above}"), new));
+        }
     }
-    let mut old = good;
-    old.count = 1;
-    old.entries[0] = entry(order(64, 0, 1), 1);
-    bad.push(("an entry that no longer counts: display 64".into(), old));
+    for old in [order(64, 0, 1), order(0, 0, LARGEST + 1)] {
+        let mut pool = good.clone();
+        (pool.count, pool.entries[0]) = (1, entry(old, 1));
+        let Order { display, new, .. } = old;
+        let name = format!("an entry that no longer counts: display {display} to {new}");
+        bad.push((name, pool));
+    }
     bad
 }

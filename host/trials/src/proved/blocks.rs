@@ -38,7 +38,9 @@ mod tests {
     use crate::rounds::rounds;
     use ledger::raw;
     use second::chance::Chance;
-    use second::samples::{self, FILLER};
+    use second::number::LARGEST;
+    use second::refusal;
+    use second::samples::{self, order, FILLER};
 
     /// What stands beside a refusal.
     fn no_block() -> ledger::Block {
@@ -98,6 +100,45 @@ mod tests {
                 writes_alike(&block, needed + chance.below(9), at);
             }
             writes_alike(&block, needed - 1, 0);
+        }
+    }
+
+    /// 5 within the count, for either release, before 15; behind the count nothing is looked at.
+    #[test]
+    fn releases_above_the_largest() {
+        let good = order(2, 40, 41);
+        for above in [LARGEST + 1, 1 << 36, 1 << 63, u64::MAX] {
+            for bad in [order(2, above, 41), order(2, 40, above)] {
+                for orders in [&[bad][..], &[good, good, bad]] {
+                    let block = samples::block(9, orders);
+                    for length in [0, 300] {
+                        let written = both::write_block(&block, &mut vec![FILLER; length], 0);
+                        assert_eq!(written, Err(refusal(5)));
+                    }
+                }
+                let mut behind = across::lent_block(&samples::block(9, &[good]));
+                behind.front.orders.list[1..].fill(across::lent_order(bad));
+                let mut buffer = [FILLER; 165];
+                assert_eq!(ledger::write_block(&behind, 0, &mut buffer), Ok(165));
+                assert_eq!(buffer[..], samples::block(9, &[good]).bytes());
+            }
+        }
+    }
+
+    /// Each release that five bytes hold next to a power of 2 comes back as it was.
+    #[test]
+    fn releases_of_up_to_35_bits() {
+        for shift in 0..=35 {
+            let release = (1 << shift) - 1;
+            let block = samples::block(9, &[order(63, release, LARGEST - release); 8]);
+            let bytes = block.bytes();
+            assert_eq!(
+                both::read_block(&bytes, 0),
+                Ok((block.clone(), bytes.len()))
+            );
+            let mut buffer = vec![FILLER; bytes.len()];
+            assert_eq!(both::write_block(&block, &mut buffer, 0), Ok(bytes.len()));
+            assert_eq!(buffer, bytes);
         }
     }
 

@@ -3,12 +3,12 @@ use super::across;
 use second::Refusal;
 
 /// The number at a place, and the place after it.
-pub fn read_number(bytes: &[u8], at: usize) -> Result<(u32, usize), Refusal> {
+pub fn read_number(bytes: &[u8], at: usize) -> Result<(u64, usize), Refusal> {
     ledger::read_number(bytes, at).map_err(across::refusal)
 }
 
 /// Writes a number at a place of a buffer and gives the place after it.
-pub fn write_number(value: u32, buffer: &mut [u8], at: usize) -> Result<usize, Refusal> {
+pub fn write_number(value: u64, buffer: &mut [u8], at: usize) -> Result<usize, Refusal> {
     ledger::write_number(value, at, buffer).map_err(across::refusal)
 }
 
@@ -23,7 +23,8 @@ mod tests {
     use crate::rounds::rounds;
     use ledger::{raw, BlockCount};
     use second::chance::Chance;
-    use second::number;
+    use second::number::{self, LARGEST};
+    use second::refusal;
     use second::samples::FILLER;
 
     /// Reads a number with both, and sees that the proved one leaves zeros beside a refusal.
@@ -65,6 +66,37 @@ mod tests {
             let length = chance.below(12);
             let at = chance.of(&[0, 3, length, usize::MAX]);
             let _ = both::write_number(value, &mut vec![FILLER; length], at);
+        }
+    }
+
+    /// Next to each power of 2, into buffers of every length up to a number's longest and beyond.
+    #[test]
+    fn numbers_next_to_powers_of_2() {
+        for shift in 0..64 {
+            let power = 1u64 << shift;
+            for value in [power - 1, power, power + 1, power + 6, u64::MAX - power] {
+                reads_alike(&number::bytes(value), 0);
+                for length in 0..8 {
+                    let _ = both::write_number(value, &mut vec![FILLER; length], 0);
+                    let _ = both::write_number(value, &mut vec![FILLER; length], 1);
+                }
+            }
+        }
+    }
+
+    /// "A number above it, written alone, is 4, before 15": the largest has five bytes.
+    #[test]
+    fn the_largest_and_above() {
+        let form = [0xFF, 0xFF, 0xFF, 0xFF, 0x7F];
+        let mut buffer = [FILLER; 5];
+        assert_eq!(both::write_number(LARGEST, &mut buffer, 0), Ok(5));
+        assert_eq!(buffer, form);
+        assert_eq!(both::read_number(&form, 0), Ok((LARGEST, 5)));
+        for length in 0..8 {
+            let write = |value| both::write_number(value, &mut vec![FILLER; length], 0);
+            assert_eq!(write(LARGEST).err(), (length < 5).then_some(refusal(15)));
+            assert_eq!(write(LARGEST + 1), Err(refusal(4)));
+            assert_eq!(write(u64::MAX), Err(refusal(4)));
         }
     }
 

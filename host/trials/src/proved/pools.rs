@@ -66,7 +66,7 @@ mod tests {
     use crate::both::{Call, CALLS};
     use crate::rounds::rounds;
     use second::chance::Chance;
-    use second::samples::{self, Case};
+    use second::samples::{self, Case, Fault};
 
     /// The calls that have this refusal.
     fn calls(number: u32) -> impl Iterator<Item = &'static Call> {
@@ -87,11 +87,15 @@ mod tests {
 
     #[test]
     fn the_earliest_of_several_faults() {
-        for call in calls(14) {
-            samples::refuses_in_order(&samples::pooling_faults(), call.make);
+        let kinds = |faults: Vec<Fault>| {
+            let [expected, new] = samples::of_releases(&faults);
+            [faults, expected, new]
+        };
+        for faults in kinds(samples::pooling_faults()) {
+            calls(14).for_each(|call| samples::refuses_in_order(&faults, call.make));
         }
-        for call in calls(12) {
-            samples::refuses_in_order(&samples::issuing_faults(), call.make);
+        for faults in kinds(samples::issuing_faults()) {
+            calls(12).for_each(|call| samples::refuses_in_order(&faults, call.make));
         }
     }
 

@@ -25,7 +25,7 @@ mod tests {
     use crate::rounds::rounds;
     use ledger::{genesis_fault, raw, BlockCount};
     use second::chance::Chance;
-    use second::samples;
+    use second::{number, samples};
 
     /// A table of zeros but for these, which can be told apart.
     fn table(n: u32, t: u32) -> Genesis {
@@ -33,7 +33,7 @@ mod tests {
             n,
             t,
             u: 77,
-            releases: std::array::from_fn(|display| 1_000 + display as u32),
+            releases: std::array::from_fn(|display| (1 << 33) + display as u64),
             keys_at: 55,
         }
     }
@@ -68,6 +68,11 @@ mod tests {
         for (_, bytes) in samples::bad_geneses() {
             reads_alike(&bytes);
         }
+        let mut large = samples::genesis(31, 10, 64);
+        large.releases = std::array::from_fn(|display| number::LARGEST - display as u64);
+        reads_alike(&large.bytes());
+        large.releases[63] = number::LARGEST + 1;
+        reads_alike(&large.bytes());
         let mut chance = Chance::of_seed(3);
         for _ in 0..rounds(2_000) {
             let bytes = chance.table().bytes();

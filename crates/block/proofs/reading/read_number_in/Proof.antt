@@ -1,7 +1,10 @@
 -- `block::reading::read_number_in` meets its contract.
 -- Assumes nothing.
 use mathlib.Core.Path.{sym, _∙_}
+use Prim.Native.Nat.{_≤_}
+use native.Mathlib.Omega.{arith}
 use borrow.Author.Needs.{needs}
+use Rattle.laws.proofs.Every.{within-true}
 use Rattle.block.proofs.reading.read_number_in.Statement.{statement}
 use Rattle.block.proofs.reading.read_number_in.Tie as tie
 
@@ -16,6 +19,14 @@ enum-known-value c = search needs
 
 within-requires : tie.Need-within-requires
 within-requires c κs = search needs
+
+-- a number in the range fits as its bounds do
+small : (c : tie.Then1)
+    → c .before .before .before .value .given .0 .0 ≤ c .before .before .before .before .before .before .before .args .most
+small c = within-true _ _ _ (sym (c .before .within .ensures) ∙ c .if1 .taken) .1
+
+cast-t14 : tie.Need-cast-t14
+cast-t14 c = omega (arith, small c)
 
 returns : tie.Need-returns
 returns c =
@@ -42,6 +53,7 @@ read-number-in-spec =
     enum-known-number
     enum-known-value
     within-requires
+    cast-t14
     returns
     returns-2
     returns-3)

@@ -17,26 +17,29 @@ orders-length-requires c κs = search needs
 add-result : tie.Need-add-result
 add-result c = search needs
 
+cast-length : tie.Need-cast-length
+cast-length c = search needs
+
 length-requires : tie.Need-length-requires
 length-requires c κs = search needs
 
 add-result-2 : tie.Need-add-result-2
-add-result-2 c = omega (arith, c .before .orders-length .ensures .1, c .length .ensures, at-most-five (c .before .before .args .front .slot .0))
+add-result-2 c = omega (arith, c .before .before .orders-length .ensures .1, c .length .ensures, at-most-five (c .before .before .before .args .front .slot .0))
 
 add-result-3 : tie.Need-add-result-3
-add-result-3 c = omega (arith, c .before .orders-length .ensures .1, c .length .ensures, at-most-five (c .before .before .args .front .slot .0))
+add-result-3 c = omega (arith, c .before .before .orders-length .ensures .1, c .length .ensures, at-most-five (c .before .before .before .args .front .slot .0))
 
 returns : tie.Need-returns
 returns c =
-    let start = c .before .before in
+    let start = c .before .before .before in
     let f = start .args .front in
     let link = sym (length-map (f .link) _) ∙ start .good .0 .1 .1 .0 .1 .0 .1 in
     let signature = sym (length-map (f .«slot_signature») _) ∙ start .good .0 .1 .1 .1 .1 .1 .0 .1 .0 .1 in
-    let sizes : 32 + c .before .orders-length .result + c .length .result + 64 ≡ length (frontOf f) =
-    omega (arith, c .before .orders-length .ensures .0, c .length .ensures, front-size f link signature) in
-    (sizes, omega (arith, c .before .orders-length .ensures .1, c .length .ensures, at-most-five (f .slot .0)))
+    let sizes : 32 + c .before .before .orders-length .result + c .length .result + 64 ≡ length (frontOf f) =
+    omega (arith, c .before .before .orders-length .ensures .0, c .length .ensures, front-size f link signature) in
+    (sizes, omega (arith, c .before .before .orders-length .ensures .1, c .length .ensures, at-most-five (f .slot .0)))
 
 pub front-length-spec : {M : Type 1} → statement M
 front-length-spec =
     tie.close
-    (tie.spec orders-length-requires add-result length-requires add-result-2 add-result-3 returns)
+    (tie.spec orders-length-requires add-result cast-length length-requires add-result-2 add-result-3 returns)

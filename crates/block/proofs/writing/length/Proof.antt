@@ -14,6 +14,9 @@ in-range-requires c κs = search needs
 orders-length-requires : tie.Need-orders-length-requires
 orders-length-requires c κs = few (c .before .before .args .orders) (c .before .before .args .slot .0) (sym (c .before .in-range .ensures) ∙ c .if1 .taken)
 
+cast-length : tie.Need-cast-length
+cast-length c = search needs
+
 length-requires : tie.Need-length-requires
 length-requires c κs = search needs
 
@@ -21,18 +24,18 @@ add-result : tie.Need-add-result
 add-result c = omega (arith, c .orders-length .ensures .1)
 
 add-result-2 : tie.Need-add-result-2
-add-result-2 c = omega (arith, c .before .orders-length .ensures .1, c .length .ensures, at-most-five (c .before .before .before .before .args .slot .0))
+add-result-2 c = omega (arith, c .before .before .orders-length .ensures .1, c .length .ensures, at-most-five (c .before .before .before .before .before .args .slot .0))
 
 mul-result : tie.Need-mul-result
 mul-result c = search needs
 
 add-result-3 : tie.Need-add-result-3
-add-result-3 c = omega (arith, c .before .orders-length .ensures .1, c .length .ensures, at-most-five (c .before .before .before .before .args .slot .0))
+add-result-3 c = omega (arith, c .before .before .orders-length .ensures .1, c .length .ensures, at-most-five (c .before .before .before .before .before .args .slot .0))
 
 returns : tie.Need-returns
 returns c =
-    let test = c .before .before in
-    simp (sym (test .before .in-range .ensures) ∙ test .if1 .taken) (omega (arith, c .before .orders-length .ensures .0, c .length .ensures))
+    let test = c .before .before .before in
+    simp (sym (test .before .in-range .ensures) ∙ test .if1 .taken) (omega (arith, c .before .before .orders-length .ensures .0, c .length .ensures))
 
 returns-2 : tie.Need-returns-2
 returns-2 c = simp (sym (c .before .in-range .ensures) ∙ c .if1 .left)
@@ -44,6 +47,7 @@ length-spec =
     in-range-requires
     orders-length-requires
     add-result
+    cast-length
     length-requires
     add-result-2
     mul-result

@@ -17,33 +17,34 @@ length-requires c κs = search needs
 length-requires-2 : tie.Need-length-requires-2
 length-requires-2 c κs = search needs
 
-add-result : tie.Need-add-result
-add-result c = let o = c .before .before .args .order in omega (arith, c .before .length .ensures, c .length2 .ensures, at-most-five (o .display), at-most-five (o .expected))
+add-releases : tie.Need-add-releases
+add-releases c = let o = c .before .before .args .order in omega (arith, c .before .length .ensures, c .length2 .ensures, at-most-five (o .expected), at-most-five (o .new))
+
+cast-length : tie.Need-cast-length
+cast-length c = search needs
 
 length-requires-3 : tie.Need-length-requires-3
 length-requires-3 c κs = search needs
 
-add-result-2 : tie.Need-add-result-2
-add-result-2 c =
-    let o = c .before .before .before .args .order in
+sizes : (c : tie.After-length3)
+    → c .length3 .result + (c .before .before .before .length .result + c .before .before .length2 .result)
+    ≡ length (orderBytes (c .before .before .before .before .args .order))
+sizes c =
     omega (
       arith,
-      c .before .before .length .ensures,
-      c .before .length2 .ensures,
+      c .before .before .before .length .ensures,
+      c .before .before .length2 .ensures,
       c .length3 .ensures,
-      at-most-five (o .display),
-      at-most-five (o .expected),
-      at-most-five (o .new),
+      order-size (c .before .before .before .before .args .order),
     )
 
+add-result : tie.Need-add-result
+add-result c = omega (arith, sizes c, order-most (c .before .before .before .before .args .order))
+
 returns : tie.Need-returns
-returns c =
-    let o = c .before .before .before .args .order in
-    let sizes : c .before .before .length .result + c .before .length2 .result + c .length3 .result ≡ length (orderBytes o) =
-    omega (arith, c .before .before .length .ensures, c .before .length2 .ensures, c .length3 .ensures, order-size o) in
-    (sizes, omega (arith, sizes, order-most o))
+returns c = (sizes c, omega (arith, sizes c, order-most (c .before .before .before .before .args .order)))
 
 pub order-length-spec : {M : Type 1} → statement M
 order-length-spec =
     tie.close
-    (tie.spec length-requires length-requires-2 add-result length-requires-3 add-result-2 returns)
+    (tie.spec length-requires length-requires-2 add-releases cast-length length-requires-3 add-result returns)

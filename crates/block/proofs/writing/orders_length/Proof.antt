@@ -22,11 +22,14 @@ abbrev μ-loop : tie.MeasureT-loop
 cast-count : tie.Need-cast-count Inv-loop μ-loop
 cast-count c = search needs
 
+cast-length : tie.Need-cast-length Inv-loop μ-loop
+cast-length c = search needs
+
 length-requires : tie.Need-length-requires Inv-loop μ-loop
 length-requires c κs = search needs
 
 loop-holds : tie.Need-loop-holds Inv-loop μ-loop
-loop-holds c = (omega arith, omega (arith, c .length .ensures), omega (arith, c .length .ensures, at-most-five (c .before .before .before .args .orders .count)))
+loop-holds c = (omega arith, omega (arith, c .length .ensures), omega (arith, c .length .ensures, at-most-five (c .before .before .before .before .args .orders .count)))
 
 whole : (c : tie.Start Inv-loop μ-loop) → length (c .args .orders .list) ≡ 8
 whole c = sym (length-map (c .args .orders .list) _) ∙ c .good .0 .1 .1 .1 .0 .1 .0 .1
@@ -52,7 +55,7 @@ loop-less c = search needs
 loop-again : tie.Need-loop-again Inv-loop μ-loop
 loop-again c =
     let test = c .before .before in
-    let start = test .before .before .before .before .before in
+    let start = test .before .before .before .before .before .before in
     let i = test .before .loop .i in
     let one = c .order-length .ensures in (
       omega arith,
@@ -62,7 +65,7 @@ loop-again c =
 
 returns : tie.Need-returns Inv-loop μ-loop
 returns c =
-    let start = c .before .before .before .before .before in
+    let start = c .before .before .before .before .before .before in
     let o = start .args .orders in
     let over : c .before .loop .i ≡ o .count = omega arith in (
       omega (
@@ -81,6 +84,7 @@ orders-length-spec =
     Inv-loop
     μ-loop
     cast-count
+    cast-length
     length-requires
     loop-holds
     mul-order

@@ -4,7 +4,9 @@ use mathlib.Core.Path.{_≡_, refl, sym}
 use mathlib.Core.List.{List, _++_}
 use Prim.Native.Nat.{ℕ}
 use denote.Ref.{now}
+use native.Mathlib.Omega.{arith}
 use borrow.Author.Needs.{needs}
+use Rattle.laws.proofs.Every.{within-true}
 use Rattle.laws.specs.Placed.{Room}
 use Rattle.laws.proofs.Placed.{room-same, room-first, room-then, wrote-same, wrote-then}
 use Rattle.number.specs.Number.{written}
@@ -12,6 +14,7 @@ use Rattle.block.specs.Block.{ordersBytes, frontBytes}
 use Rattle.block.specs.Answers.{unlisted}
 use Rattle.block.specs.Blocks.{frontOf}
 use Rattle.block.specs.declared.Front.{Front}
+use Rattle.block.proofs.Lists.{range-parts}
 use Rattle.block.proofs.writing.put_front.Statement.{statement}
 use Rattle.block.proofs.writing.put_front.Tie as tie
 
@@ -42,17 +45,24 @@ put-orders-requires c κs =
     let first = c .before .before .before in
     let start = first .before .before .before .before .before .before in
     let f = start .args .front in
-    (start .pre .0, room-first (orders f) (behind-orders f) (room-then (f .link) (behind-link f) (first .put-bytes .ensures) (room start)))
+    let (few, ranged, _) = range-parts (f .orders) (f .slot .0) (start .pre .0) in
+    (few, ranged, room-first (orders f) (behind-orders f) (room-then (f .link) (behind-link f) (first .put-bytes .ensures) (room start)))
+
+cast-put-number : tie.Need-cast-put-number
+cast-put-number c = search needs
 
 put-number-requires : tie.Need-put-number-requires
 put-number-requires c κs =
-    let second = c .before .before .before in
+    let second = c .before .before .before .before in
     let first = second .before .before .before .before in
     let start = first .before .before .before .before .before .before in
     let f = start .args .front in
-    room-first (written (f .slot .0)) (f .«slot_signature»)
-    (room-then (orders f) (behind-orders f) (second .put-orders .ensures)
-    (room-then (f .link) (behind-link f) (first .put-bytes .ensures) (room start)))
+    let (_, most) = within-true 1 256 (f .slot .0) (range-parts (f .orders) (f .slot .0) (start .pre .0) .2) in (
+      omega arith,
+      room-first (written (f .slot .0)) (f .«slot_signature»)
+          (room-then (orders f) (behind-orders f) (second .put-orders .ensures)
+          (room-then (f .link) (behind-link f) (first .put-bytes .ensures) (room start))),
+    )
 
 slice-aggregate-put-bytes-2 : tie.Need-slice-aggregate-put-bytes-2
 slice-aggregate-put-bytes-2 c = search needs
@@ -60,7 +70,7 @@ slice-aggregate-put-bytes-2 c = search needs
 put-bytes-requires-2 : tie.Need-put-bytes-requires-2
 put-bytes-requires-2 c κs =
     let third = c .before .before .before .before in
-    let second = third .before .before .before .before in
+    let second = third .before .before .before .before .before in
     let first = second .before .before .before .before in
     let start = first .before .before .before .before .before .before in
     let f = start .args .front in
@@ -75,7 +85,7 @@ returns : tie.Need-returns
 returns c =
     let last = c .before .before in
     let third = last .before .before .before .before .before in
-    let second = third .before .before .before .before in
+    let second = third .before .before .before .before .before in
     let first = second .before .before .before .before in
     let f = first .before .before .before .before .before .before .args .front in
     wrote-same (sym (front-pieces f))
@@ -90,6 +100,7 @@ put-front-spec =
     slice-aggregate-put-bytes
     put-bytes-requires
     put-orders-requires
+    cast-put-number
     put-number-requires
     slice-aggregate-put-bytes-2
     put-bytes-requires-2

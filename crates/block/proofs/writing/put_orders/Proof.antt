@@ -9,7 +9,7 @@ use denote.Ref.{now}
 use borrow.Author.Needs.{needs}
 use Rattle.laws.proofs.Placed.{room-same, wrote-same, wrote-length, room-first, room-then, wrote-none, wrote-then}
 use Rattle.laws.specs.Placed.{Room, Wrote}
-use Rattle.block.proofs.Lists.{begun, all-begun, room-more, wrote-more}
+use Rattle.block.proofs.Lists.{begun, all-begun, range-at, room-more, wrote-more}
 use Rattle.laws.specs.Bytes.{joined}
 use Rattle.number.specs.Number.{written}
 use Rattle.block.specs.Block.{orderBytes}
@@ -29,13 +29,16 @@ whole : (c : tie.Start Inv-loop μ-loop) → length (c .args .orders .list) ≡ 
 whole c = sym (length-map (c .args .orders .list) _) ∙ c .good .1 .1 .0 .1 .1 .1 .0 .1 .0 .1
 
 room : (c : tie.Start Inv-loop μ-loop) → Room (now (c .args .out)) (c .args .at) (written (c .args .orders .count) ++ begun (c .args .orders) (c .args .orders .count))
-room c = room-same (all-begun (c .args .orders) (c .pre .0) (whole c)) (c .pre .1)
+room c = room-same (all-begun (c .args .orders) (c .pre .0) (whole c)) (c .pre .2)
+
+cast-put-number : tie.Need-cast-put-number Inv-loop μ-loop
+cast-put-number c = search needs
 
 put-number-requires : tie.Need-put-number-requires Inv-loop μ-loop
 put-number-requires c κs =
-    let start = c .before .before .before .before in
+    let start = c .before .before .before .before .before in
     let o = start .args .orders in
-    room-first (written (o .count)) (begun o (o .count)) (room start)
+    (omega (arith, start .pre .0), room-first (written (o .count)) (begun o (o .count)) (room start))
 
 loop-holds : tie.Need-loop-holds Inv-loop μ-loop
 loop-holds c = (omega arith, wrote-none)
@@ -51,10 +54,12 @@ put-order-requires c κs =
     let test = c .before .before in
     let loop = test .before .loop in
     let first = test .before .before .before .before in
-    let start = first .before .before .before .before .before in
-    let o = start .args .orders in
-    room-more o (start .pre .0) (whole start) (loop .i) (test .loop-test .taken)
-    (room-then (written (o .count)) (begun o (o .count)) (first .put-number .ensures) (room start)) (loop .inv .1)
+    let start = first .before .before .before .before .before .before in
+    let o = start .args .orders in (
+      range-at o (loop .i) (start .pre .1) (test .loop-test .taken) (omega (arith, start .pre .0, whole start)),
+      room-more o (start .pre .0) (whole start) (loop .i) (test .loop-test .taken)
+          (room-then (written (o .count)) (begun o (o .count)) (first .put-number .ensures) (room start)) (loop .inv .1),
+    )
 
 add-i : tie.Need-add-i Inv-loop μ-loop
 add-i c = search needs
@@ -67,7 +72,7 @@ loop-again c =
     let put = c .before .before in
     let test = put .before .before .before in
     let loop = test .before .loop in
-    let start = test .before .before .before .before .before .before .before .before .before in (
+    let start = test .before .before .before .before .before .before .before .before .before .before in (
       omega arith,
       wrote-more (start .args .orders) (start .pre .0) (whole start) (loop .i) (test .loop-test .taken) (loop .inv .1) (put .put-order .ensures),
     )
@@ -81,7 +86,7 @@ returns : tie.Need-returns Inv-loop μ-loop
 returns c =
     let loop = c .before .loop in
     let first = c .before .before .before .before in
-    let start = first .before .before .before .before .before in
+    let start = first .before .before .before .before .before .before in
     let o = start .args .orders in
     let over : loop .i ≡ o .count = omega arith in
     wrote-same (sym (all-begun o (start .pre .0) (whole start)))
@@ -94,6 +99,7 @@ put-orders-spec =
     Inv-loop
     μ-loop
     cast-count
+    cast-put-number
     put-number-requires
     loop-holds
     mul-order

@@ -66,7 +66,7 @@ put-front-requires : tie.Need-put-front-requires
 put-front-requires c κs =
     let test = c .before .before .before .before in
     let a = test .before .before .before .before .before .args in (
-      few (a .block .front .orders) (a .block .front .slot .0) (fine test),
+      fine test,
       room-first (frontOf (a .block .front)) (a .block .«block_signature») (room (c .before)),
     )
 

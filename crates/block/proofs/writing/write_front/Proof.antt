@@ -45,10 +45,7 @@ returns-2 c =
     (sym (c .before .fits2 .ensures) ∙ not-true _ (c .if2 .taken)))
 
 put-front-requires : tie.Need-put-front-requires
-put-front-requires c κs =
-    let test = c .before .before .before .before in
-    let a = test .before .before .before .args in
-    (few (a .front .orders) (a .front .slot .0) (fine test), room (c .before))
+put-front-requires c κs = (fine (c .before .before .before .before), room (c .before))
 
 same-length : tie.Need-same-length
 same-length c = search needs

@@ -30,10 +30,13 @@ begun c =
     rw (c .after .ensures)
     (wrote (room-first letters (twoNumbers (start .args .number) (start .args .place .0)) (start .pre)) (call .put .ensures .0) (call .put .ensures .1))
 
+cast-put-two : tie.Need-cast-put-two
+cast-put-two c = search needs
+
 put-two-requires : tie.Need-put-two-requires
 put-two-requires c κs =
-    let start = c .before .before .before .before .before .before .before .before in
-    room-then letters (twoNumbers (start .args .number) (start .args .place .0)) (begun (c .before)) (start .pre)
+    let start = c .before .before .before .before .before .before .before .before .before in
+    room-then letters (twoNumbers (start .args .number) (start .args .place .0)) (begun (c .before .before)) (start .pre)
 
 same-length : tie.Need-same-length
 same-length c = search needs
@@ -41,10 +44,10 @@ same-length c = search needs
 returns : tie.Need-returns
 returns c =
     let call = c .before .before in
-    let a = call .before .before .before .before .before .before .before .before .before .args in
-    wrote-then letters (twoNumbers (a .number) (a .place .0)) (begun (call .before .before)) (call .put-two .ensures)
+    let a = call .before .before .before .before .before .before .before .before .before .before .args in
+    wrote-then letters (twoNumbers (a .number) (a .place .0)) (begun (call .before .before .before)) (call .put-two .ensures)
 
 pub put-refusal-spec : {M : Type 1} → statement M
 put-refusal-spec =
     tie.close
-    (tie.spec slice-aggregate-put put-requires after-requires put-two-requires same-length returns)
+    (tie.spec slice-aggregate-put put-requires after-requires cast-put-two put-two-requires same-length returns)

@@ -1,5 +1,6 @@
 //! Single blocks read at a place of a slice.
 use second::block::{self, Block};
+use second::number::LARGEST;
 use second::samples::{self, order, EDITS};
 use second::Refusal;
 
@@ -88,13 +89,13 @@ pub fn shortest() -> Block {
 }
 
 pub fn longest() -> Block {
-    samples::block(256, &[order(63, u32::MAX, u32::MAX); 8])
+    samples::block(256, &[order(63, LARGEST, LARGEST); 8])
 }
 
 /// A block in which no two parts, and no two bytes of one, are alike.
 pub fn mixed() -> Block {
     let orders: Vec<_> = (0..8)
-        .map(|place| order(place, 1 << (4 * place), 3 << (4 * place)))
+        .map(|place| order(place, 16 << (4 * place), 48 << (4 * place)))
         .collect();
     Block {
         link: std::array::from_fn(|place| place as u8),
@@ -142,6 +143,24 @@ fn read() -> Vec<Case> {
     ]
 }
 
+/// One order, whose releases have more than 32 bits: the bytes written out by hand.
+fn of_35_bits() -> Vec<Case> {
+    let mut bytes = vec![0; 32];
+    bytes.extend([1, 2, 0xFF, 0xFF, 0xFF, 0xFF, 0x10]);
+    bytes.extend([0xFF, 0xFF, 0xFF, 0xFF, 0x7F]);
+    bytes.extend([9; 1 + 64 + 64]);
+    let body = "orders 1 2 4563402751 34359738367 slot 9";
+    let whole = format!("link 00*32 {body} signatures 09*64 09*64 next 173");
+    vec![
+        case(
+            "from FF FF FF FF 10 to FF FF FF FF 7F, the largest",
+            Read(bytes.clone(), 0),
+        )
+        .by_hand(whole),
+        case("what judging needs of it", Body(Read(bytes, 0))).by_hand(format!("{body} next 173")),
+    ]
+}
+
 fn refused(name: impl Into<String>, bytes: Vec<u8>, at: usize, number: u32) -> Case {
     case(name, Read(bytes, at)).by_hand(format!("refused {number} 0"))
 }
@@ -186,7 +205,7 @@ fn edited() -> Vec<Case> {
 
 /// What stands behind a link of zeros, the refusal, and why.
 #[rustfmt::skip]
-const FIRST_FAULTS: [(&str, u32, &[u8]); 17] = [
+const FIRST_FAULTS: [(&str, u32, &[u8]); 24] = [
     ("a count of 9 at the slice's end", 5, &[9]),
     ("a count of 80 00 at the slice's end", 4, &[0x80, 0x00]),
     ("a count of 80: cut, although it began badly", 3, &[0x80]),
@@ -204,6 +223,13 @@ const FIRST_FAULTS: [(&str, u32, &[u8]); 17] = [
     ("slot 0, then a cut", 5, &[0, 0]),
     ("slot 80 00: 4, not 5", 4, &[0, 0x80, 0x00]),
     ("the second order's display before its other numbers", 5, &[2, 2, 40, 41, 64, 0x80, 0x00, 41]),
+    ("a count of 4,294,967,296: 5, not 4, and not 0", 5, &[0x80, 0x80, 0x80, 0x80, 0x10]),
+    ("a display of 4,294,967,298", 5, &[1, 0x82, 0x80, 0x80, 0x80, 0x10]),
+    ("a display of 34,359,738,367", 5, &[1, 0xFF, 0xFF, 0xFF, 0xFF, 0x7F]),
+    ("a slot of 4,294,967,297", 5, &[0, 0x81, 0x80, 0x80, 0x80, 0x10]),
+    ("an expected release of FF FF FF FF 00: not shortest", 4, &[1, 2, 0xFF, 0xFF, 0xFF, 0xFF, 0x00]),
+    ("an expected release of five high bits, at the slice's end", 4, &[1, 2, 0x80, 0x80, 0x80, 0x80, 0x80]),
+    ("the largest release expected, then a cut", 3, &[1, 2, 0xFF, 0xFF, 0xFF, 0xFF, 0x7F]),
 ];
 
 fn first_faults() -> Vec<Case> {
@@ -235,6 +261,7 @@ pub fn sections() -> Vec<Section> {
     let section = |title, cases| Section { title, cases };
     vec![
         section("Blocks: read from a place, whatever follows them", read()),
+        section("Blocks: releases of 35 bits", of_35_bits()),
         section("Blocks: cut", cut()),
         section(
             "Blocks: one number badly written or out of its range",

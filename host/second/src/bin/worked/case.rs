@@ -1,4 +1,5 @@
 //! A case: its op, its arguments, its answer, and how the three are written (crates/worked/SOURCE.md).
+use second::order::Releases;
 use second::Refusal;
 
 /// An argument.
@@ -108,6 +109,12 @@ impl From<u32> for Field {
     }
 }
 
+impl From<u64> for Field {
+    fn from(value: u64) -> Field {
+        Field::Number(value)
+    }
+}
+
 impl From<usize> for Field {
     fn from(value: usize) -> Field {
         Field::Number(value as u64)
@@ -161,7 +168,7 @@ pub fn told<T>(answer: Result<T, Refusal>, text: impl Fn(T) -> String) -> String
 }
 
 /// The displays whose release is not 0, each with its release.
-pub fn releases_text(releases: &[u32; 64]) -> String {
+pub fn releases_text(releases: &Releases) -> String {
     releases
         .iter()
         .enumerate()

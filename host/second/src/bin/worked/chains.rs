@@ -1,7 +1,7 @@
 //! Delivered chains, checked.
 use second::chain::{self, LONGEST};
 use second::order::Slot;
-use second::samples::{self, BLOCK, EDITS};
+use second::samples::{self, BLOCK, EDITS, LONG_START};
 
 use crate::case::{case, refused, releases_text, told, Case, Field, Op, Section};
 use crate::faults::{at, bad_openings, edit, pairs, stamped, with_edit, Arguments};
@@ -76,8 +76,8 @@ fn taken_at(now: u32, stamps: &[u32]) -> Case {
 /// "Slot stamps rise strictly" and are below now, so no delivered chain is longer.
 fn longest() -> Case {
     let (genesis, chain) = samples::longest_chain(255);
-    let mut releases = [1 << 28; 64];
-    releases[..8].fill((1 << 28) + 255);
+    let mut releases = [LONG_START; 64];
+    releases[..8].fill(LONG_START + 255);
     check("a block in every slot, 63,878 bytes", |given| {
         given.now = Slot(256);
         (given.genesis, given.delivered) = (genesis, chain);

@@ -2,7 +2,7 @@
 use second::adopt;
 use second::block::Block;
 use second::chain::LONGEST;
-use second::order::Slot;
+use second::order::{Release, Slot};
 use second::samples::{self, order};
 use second::{refusal, Refusal};
 
@@ -105,7 +105,7 @@ pub fn of_one_length() -> (Vec<u8>, [Vec<u8>; 2]) {
     table.releases[..7].fill(start);
     let genesis = table.bytes();
     // seven orders of 11 bytes and one of 4
-    let full = |slot: u32, release: u32, last: u32| {
+    let full = |slot: u32, release: Release, last: u32| {
         let mut orders: Vec<_> = (0..7)
             .map(|display| order(display, release, release + 1))
             .collect();

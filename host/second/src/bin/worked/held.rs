@@ -1,8 +1,8 @@
 //! Held chains, and what they come to.
 use second::chain::{self, Standing};
 use second::genesis::Opening;
-use second::order::Slot;
-use second::samples::{self, order, BLOCK, STAMPS};
+use second::order::{Release, Slot};
+use second::samples::{self, order, BLOCK, LONG_START, STAMPS};
 use second::{sha256, Refusal};
 
 use crate::case::{bytes_text, case, releases_text, told, Case, Field, Op, Section};
@@ -125,8 +125,8 @@ fn good() -> Vec<Case> {
 fn longest() -> Case {
     let (genesis, chain) = samples::longest_chain(256);
     let standing = |blocks: u32, length: usize| {
-        let mut releases = [1 << 28; 64];
-        releases[..8].fill((1 << 28) + blocks);
+        let mut releases = [LONG_START; 64];
+        releases[..8].fill(LONG_START + Release::from(blocks));
         let before = &chain[length - 251..length];
         standing_of(blocks, length, blocks, before, &releases_text(&releases))
     };

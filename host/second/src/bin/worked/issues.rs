@@ -1,9 +1,10 @@
 //! The next block: drafted, as the text that a host signs, and appended.
 use second::block::Block;
 use second::issue;
-use second::order::{Order, Slot};
+use second::number::LARGEST;
+use second::order::{Order, Release, Slot};
 use second::pool::{Entry, Pool};
-use second::samples::{self, entry, order, BLOCK, FILLER};
+use second::samples::{self, entry, order, BLOCK, FILLER, LONG_START};
 use second::{refusal, sha256, Refusal};
 
 use crate::case::{bytes_text, case, refused, told, Case, Field, Op, Section};
@@ -164,8 +165,10 @@ fn some_taken() -> Vec<Case> {
         .collect();
     let first = [0, 1, 3, 4, 5, 6, 7, 8].map(|display| order(display, 0, 1));
     let mut spare = pooled(&mixed);
-    spare.pool.entries[6..].fill(entry(order(u32::MAX, 7, 7), 0));
+    spare.pool.entries[6..].fill(entry(order(u32::MAX, LARGEST + 1, u64::MAX), 0));
     let before = spare.held[162..324].to_vec();
+    let large_orders = [order(2, 40, 1 << 32), order(2, 1 << 32, LARGEST)];
+    let large = large_orders.map(|order| entry(order, 20));
     let rising: Vec<Entry> = (40..49).map(|r| entry(order(2, r, r + 1), 20)).collect();
     let rising_orders: Vec<Order> = (40..48).map(|r| order(2, r, r + 1)).collect();
     [
@@ -177,13 +180,14 @@ fn some_taken() -> Vec<Case> {
         taken("9 valid ones, 8 taken", &each[..10], &first),
         taken("64 entries, 8 taken", &each, &first),
         taken("9, each valid after another", &rising, &rising_orders),
+        taken("to the largest release", &large, &large_orders),
     ]
     .into_iter()
     .flatten()
     .collect()
 }
 
-fn orders_of(release: u32) -> [Order; 1] {
+fn orders_of(release: Release) -> [Order; 1] {
     [order(2, release, release + 1)]
 }
 
@@ -268,7 +272,7 @@ fn rooms() -> Vec<Case> {
 /// Behind a block in every slot but the last, each as long as it can be, one more of that length.
 fn longest() -> Vec<Case> {
     let (genesis, chain) = samples::longest_chain(256);
-    let release = (1 << 28) + 255;
+    let release = LONG_START + 255;
     let orders: Vec<Order> = (0..9).map(|d| order(d, release, release + 1)).collect();
     let entries: Vec<Entry> = orders.iter().map(|order| entry(*order, 256)).collect();
     let length = chain.len() - 251;

@@ -1,4 +1,5 @@
 //! A delivered block behind the blocks before it: its stamp, its verdict, its link and its orders, checked.
+use second::number::LARGEST;
 use second::order::{Order, Slot};
 use second::samples::{self, order, BLOCK, STAMPS};
 use second::sha256;
@@ -90,11 +91,35 @@ fn links() -> Vec<Case> {
     cases
 }
 
+/// A chain of two blocks, the second with these orders.
+fn of(name: &str, orders: &[Order]) -> Case {
+    let blocks = [samples::block(1, &[]), samples::block(2, orders)];
+    chain_of(name, samples::chain(&samples::table(), &blocks))
+}
+
+/// Display 2 goes over what 32 bits hold; a release that is the right one in its lowest 32 bits is wrong.
+fn of_35_bits() -> Vec<Case> {
+    let below = order(2, 40, 4_294_967_295);
+    let over = order(2, 4_294_967_295, 4_294_967_297);
+    let largest = order(2, 4_294_967_297, LARGEST);
+    vec![
+        of("40 to 4,294,967,297", &[below, over]).by_hand("count 2 releases 2:4294967297"),
+        of("up to the largest", &[below, over, largest]).by_hand("count 2 releases 2:34359738367"),
+        of(
+            "from there to 7",
+            &[below, over, order(2, 4_294_967_297, 7)],
+        )
+        .by_hand(refused_at(10, 2)),
+        of("1 expected there", &[below, over, order(2, 1, 7)]).by_hand(refused_at(10, 2)),
+        of(
+            "4,294,967,336 expected, not 40",
+            &[order(2, 4_294_967_336, LARGEST)],
+        )
+        .by_hand(refused_at(10, 2)),
+    ]
+}
+
 fn orders() -> Vec<Case> {
-    let of = |name: &str, orders: &[Order]| {
-        let blocks = [samples::block(1, &[]), samples::block(2, orders)];
-        chain_of(name, samples::chain(&samples::table(), &blocks))
-    };
     let first = order(2, 40, 41);
     let second = order(2, 41, 50);
     let rising: Vec<Order> = (40..48)
@@ -105,9 +130,9 @@ fn orders() -> Vec<Case> {
         of("the two swapped", &[second, first]).by_hand(refused_at(10, 2)),
         of(
             "another display between them",
-            &[first, order(63, 0, u32::MAX), second],
+            &[first, order(63, 0, LARGEST), second],
         )
-        .by_hand("count 2 releases 2:50 63:4294967295"),
+        .by_hand("count 2 releases 2:50 63:34359738367"),
         of("eight of one display", &rising).by_hand("count 2 releases 2:48"),
         of("the same one twice", &[first, first]).by_hand(refused_at(10, 2)),
         of(
@@ -131,5 +156,6 @@ pub fn sections() -> Vec<Section> {
         section("Checks: verdicts, 8", verdicts()),
         section("Checks: links, 9", links()),
         section("Checks: orders of one block, 10", orders()),
+        section("Checks: releases of 35 bits", of_35_bits()),
     ]
 }

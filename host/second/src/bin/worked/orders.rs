@@ -1,12 +1,13 @@
 //! Orders at one display's release.
-use second::order::{self, Order, Releases};
+use second::number::LARGEST;
+use second::order::{self, Order, Release, Releases};
 use second::samples;
 
 use crate::case::{case, releases_text, Case, Field, Op, Section};
 
 /// An order for a display that is at a release; every other display is at 0.
 pub struct At {
-    pub release: u32,
+    pub release: Release,
     pub order: Order,
 }
 
@@ -25,9 +26,12 @@ impl At {
             expected,
             new,
         } = self.order;
-        [display, self.release, expected, new]
-            .map(Field::from)
-            .into()
+        vec![
+            display.into(),
+            self.release.into(),
+            expected.into(),
+            new.into(),
+        ]
     }
 }
 
@@ -72,7 +76,7 @@ fn verdict(valid: bool) -> String {
 }
 
 /// Display, its release, the expected release, the new one, and whether the order is valid.
-type Row = (u32, u32, u32, u32, bool);
+type Row = (u32, Release, Release, Release, bool);
 
 const WORKED: [Row; 4] = [
     (2, 40, 40, 41, true),
@@ -81,13 +85,20 @@ const WORKED: [Row; 4] = [
     (2, 40, 39, 41, false),
 ];
 
-const EDGES: [Row; 12] = [
+/// The first release that 32 bits do not hold.
+const ABOVE: Release = 1 << 32;
+
+const EDGES: [Row; 16] = [
     (0, 0, 0, 1, true),
     (63, 0, 0, 1, true),
-    (63, 7, 7, u32::MAX, true),
-    (5, u32::MAX - 1, u32::MAX - 1, u32::MAX, true),
-    (5, u32::MAX, u32::MAX, u32::MAX, false),
-    (5, u32::MAX, u32::MAX, 0, false),
+    (63, 7, 7, LARGEST, true),
+    (5, LARGEST - 1, LARGEST - 1, LARGEST, true),
+    (5, LARGEST, LARGEST, LARGEST, false),
+    (5, LARGEST, LARGEST, 0, false),
+    (5, ABOVE - 1, ABOVE - 1, ABOVE, true),
+    (5, ABOVE, ABOVE, ABOVE + 1, true),
+    (5, ABOVE, ABOVE, 1, false),
+    (5, ABOVE + 40, 40, 41, false),
     (5, 0, 0, 0, false),
     (5, 40, 41, 42, false),
     (5, 40, 0, 41, false),

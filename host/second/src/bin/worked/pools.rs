@@ -1,5 +1,6 @@
 //! Orders offered to a pool.
-use second::order::{Order, Slot};
+use second::number::LARGEST;
+use second::order::{Order, Release, Slot};
 use second::pool::{self, Entry, Pool, ROOM};
 use second::samples::{self, entry, order, BLOCK};
 use second::{refusal, Refusal};
@@ -39,9 +40,13 @@ impl Op for Offer {
     }
 }
 
-fn numbers(entry: &Entry) -> [u32; 4] {
-    let order = entry.order;
-    [order.display, order.expected, order.new, entry.slot.0]
+fn numbers(entry: &Entry) -> [u64; 4] {
+    let Order {
+        display,
+        expected,
+        new,
+    } = entry.order;
+    [display.into(), expected, new, entry.slot.0.into()]
 }
 
 /// A pool's count, and its entries up to the last that is not of zeros.
@@ -52,7 +57,8 @@ pub fn pool_fields(pool: &Pool) -> impl Iterator<Item = Field> + '_ {
         .rposition(|entry| *entry != Entry::default());
     let listed = &pool.entries[..last.map_or(0, |last| last + 1)];
     let numbers = listed.iter().flat_map(numbers);
-    [pool.count].into_iter().chain(numbers).map(Field::from)
+    let count = pool.count.into();
+    [count].into_iter().chain(numbers).map(Field::from)
 }
 
 /// A pool as it is printed: past the count only entries that are not of zeros.
@@ -88,6 +94,9 @@ fn kept(name: impl Into<String>, given: Arguments, refusal: Refusal) -> Case {
     case(name, Offer(given)).by_hand(by_hand)
 }
 
+/// The first release that 32 bits do not hold.
+const ABOVE: Release = 1 << 32;
+
 /// Offered at slot 20 to one who holds no blocks; u is 5, display 2 at release 40, the others at 0.
 fn at_20(pool: Pool, order: Order) -> Arguments {
     Arguments {
@@ -120,7 +129,7 @@ fn dropped() -> Vec<Case> {
     ];
     let young = [entries[1], entries[3], entry(new, 20)];
     let mut spare = Pool::of(&entries);
-    spare.entries[4..].fill(entry(order(u32::MAX, 7, 7), 0));
+    spare.entries[4..].fill(entry(order(u32::MAX, LARGEST + 1, u64::MAX), 0));
     let only_old = order(2, 41, 42);
     vec![
         behind("a pool of no entries", &[], order(2, 40, 41)),
@@ -185,6 +194,7 @@ fn ages() -> Vec<Case> {
 /// "Valid after the held chain and then the counting entries in order, entries that are invalid at their place being skipped."
 fn validity() -> Vec<Case> {
     let two = [entry(order(2, 40, 50), 20), entry(order(3, 0, 9), 20)];
+    let above = [entry(order(3, 0, ABOVE), 20)];
     let mixed = [
         entry(order(2, 41, 42), 18),
         entry(order(2, 40, 41), 19),
@@ -194,7 +204,15 @@ fn validity() -> Vec<Case> {
     ];
     vec![
         behind("valid after a pooled one only", &two, order(2, 50, 51)),
-        behind("to the largest release", &two, order(3, 9, u32::MAX)),
+        behind("to the largest release", &two, order(3, 9, LARGEST)),
+        refuses(
+            "9 in its lowest 32 bits",
+            &two,
+            order(3, ABOVE + 9, LARGEST),
+            14,
+        ),
+        behind("to 4,294,967,296", &two, order(3, 9, ABOVE)),
+        behind("from there on", &above, order(3, ABOVE, ABOVE + 1)),
         behind("another display", &two, order(63, 0, 1)),
         refuses("a pooled one makes it invalid", &two, order(2, 40, 41), 14),
         refuses("the same order again", &two, order(3, 0, 9), 14),
@@ -268,6 +286,20 @@ fn displays() -> Vec<Case> {
         .into()
 }
 
+/// 02: "a release above the largest is 5 in an offer", whether or not it would be valid, and where the pool is full.
+fn releases() -> Vec<Case> {
+    let one = [entry(order(2, 40, 41), 18)];
+    let full = [entry(order(9, 9, 9), 16); ROOM];
+    let large = LARGEST + 1;
+    vec![
+        refuses("expected 34,359,738,368", &one, order(2, large, 41), 5),
+        refuses("new 34,359,738,368", &one, order(2, 41, large), 5),
+        refuses("both", &one, order(2, large, large), 5),
+        refuses("new 2^64 - 1", &one, order(2, 41, u64::MAX), 5),
+        refuses("64 entries count", &full, order(0, 0, large), 5),
+    ]
+}
+
 fn bad_pools() -> Vec<Case> {
     samples::bad_pools()
         .into_iter()
@@ -322,6 +354,7 @@ pub fn sections() -> Vec<Section> {
         section("Pool: the chain below decides", chain_below()),
         section("Pool: 13 if 64 entries still count", room()),
         section("Pool: 5 for the display offered", displays()),
+        section("Pool: 5 for a release offered", releases()),
         section("Pool: 18 for a bad pool", bad_pools()),
         section("Pool: 1, 2 and 17", all_kept(bad_before_the_pool())),
         section(

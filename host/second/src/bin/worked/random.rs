@@ -54,7 +54,7 @@ fn op(chance: &mut Chance) -> Box<dyn Op> {
         0 => Box::new(Valid(At { release, order })),
         1 => Box::new(Take(At { release, order })),
         2 => Box::new(Table(table)),
-        3 => Box::new(Turn(table, chance.number().max(1))),
+        3 => Box::new(Turn(table, chance.small().max(1))),
         4 => Box::new(Depth(table)),
         5 => Box::new(Key(table, chance.within(0, 40))),
         6 => Box::new(Read(block, at)),

@@ -1,7 +1,9 @@
 //! Genesis tables, and what hangs on one: turns, the depth, keys.
 use second::genesis::{self, Genesis};
+use second::number::LARGEST;
 use second::order::Slot;
-use second::{refusal, samples};
+use second::refusal;
+use second::samples::{self, headed, BAD_HEADS};
 
 use crate::case::{bytes_text, case, releases_text, told, Case, Field, Op, Section};
 
@@ -97,7 +99,7 @@ impl Op for Key {
 /// The longest table: "at most 1,315 bytes".
 fn longest() -> Genesis {
     Genesis {
-        releases: [u32::MAX; 64],
+        releases: [LARGEST; 64],
         keys: vec![[0xFF; 32]; 31],
         ..samples::genesis(31, 6, 64)
     }
@@ -107,11 +109,19 @@ fn longest() -> Genesis {
 fn equal_keys() -> Genesis {
     let mut table = samples::genesis(2, 0, 64);
     table.keys = vec![[7; 32]; 2];
-    for (display, release) in [0, 127, 128, 16_383, 16_384, 1 << 21, 1 << 28, u32::MAX]
-        .into_iter()
-        .enumerate()
-    {
-        table.releases[8 * display] = release;
+    let releases = [
+        0,
+        127,
+        128,
+        16_383,
+        16_384,
+        1 << 21,
+        1 << 28,
+        1 << 32,
+        LARGEST,
+    ];
+    for (place, release) in releases.into_iter().enumerate() {
+        table.releases[7 * place] = release;
     }
     table
 }
@@ -133,7 +143,15 @@ fn read() -> Vec<Case> {
             .by_hand("n 31 t 10 u 64 keys at 67 releases 2:40"),
         table("n = 31, t = 6", samples::genesis(31, 6, 64)),
         table("n = 31, t = 6, 1,315 bytes", longest()),
-        table("releases of every length, equal keys", equal_keys()),
+        table("releases of every length, equal keys", equal_keys()).by_hand(
+            "n 2 t 0 u 64 keys at 86 releases 2:40 \
+            7:127 14:128 21:16383 28:16384 35:2097152 42:268435456 49:4294967296 56:34359738367",
+        ),
+        case(
+            "release 0 is FF FF FF FF 10",
+            Table(with_number(3, &[0xFF, 0xFF, 0xFF, 0xFF, 0x10])),
+        )
+        .by_hand("n 6 t 1 u 5 keys at 71 releases 0:4563402751 2:40"),
     ]
 }
 
@@ -141,35 +159,11 @@ fn refused(name: impl Into<String>, bytes: Vec<u8>) -> Case {
     case(name, Table(bytes)).by_hand("refused 1 0")
 }
 
-const OUT_OF_RANGE: [(u32, u32, u32); 16] = [
-    (0, 0, 1),
-    (32, 0, 1),
-    (257, 0, 1),
-    (u32::MAX, 0, 1),
-    (1, 1, 1),
-    (3, 1, 1),
-    (6, 2, 1),
-    (30, 10, 1),
-    (31, 11, 1),
-    (1, 1_431_655_765, 1),
-    (31, 1_431_655_766, 1),
-    (31, u32::MAX, 1),
-    (6, 1, 0),
-    (6, 1, 65),
-    (6, 1, 320),
-    (6, 1, u32::MAX),
-];
-
 /// Numbers that are read well and break a rule.
 fn out_of_range() -> Vec<Case> {
-    let mut cases: Vec<Case> = OUT_OF_RANGE
+    let mut cases: Vec<Case> = BAD_HEADS
         .into_iter()
-        .map(|(n, t, u)| {
-            // as many keys as a reader would want who keeps n in one byte
-            let mut table = samples::genesis(n & 0xFF, t, u);
-            table.n = n;
-            refused(format!("n = {n}, t = {t}, u = {u}"), table.bytes())
-        })
+        .map(|(n, t, u)| refused(format!("n = {n}, t = {t}, u = {u}"), headed(n, t, u)))
         .collect();
     let all_keys = Genesis {
         keys: vec![[7; 32]; 257],
@@ -191,6 +185,12 @@ fn cut_or_long() -> Vec<Case> {
     cases
 }
 
+/// A good table with other bytes in the place of one of its numbers.
+fn with_number(place: usize, form: &[u8]) -> Vec<u8> {
+    let good = samples::table();
+    [&good[..place], form, &good[place + 1..]].concat()
+}
+
 /// One number of a good table written badly.
 fn badly_written() -> Vec<Case> {
     let good = samples::table();
@@ -204,12 +204,15 @@ fn badly_written() -> Vec<Case> {
     ] {
         let forms: [(&str, &[u8]); 3] = [
             ("not shortest", &[good[place] | 0x80, 0x00]),
-            ("too large", &[0xFF, 0xFF, 0xFF, 0xFF, 0x10]),
-            ("of five high bits", &[0x81; 5]),
+            (
+                "of five bytes, not shortest",
+                &[0xFF, 0xFF, 0xFF, 0xFF, 0x00],
+            ),
+            ("too large", &[0x81; 5]),
         ];
         for (fault, form) in forms {
-            let bytes = [&good[..place], form, &good[place + 1..]].concat();
-            cases.push(refused(format!("{number} {fault}"), bytes));
+            let name = format!("{number} {fault}");
+            cases.push(refused(name, with_number(place, form)));
         }
     }
     cases

@@ -1,5 +1,6 @@
 //! Blocks, their fronts and slot texts written into lent buffers.
 use second::block::{self, Block};
+use second::number::LARGEST;
 use second::order::{Order, Slot};
 use second::samples::{order, FILLER};
 use second::{lent, Refusal};
@@ -31,8 +32,14 @@ impl Parts {
 
     fn order_fields(&self) -> impl Iterator<Item = Field> + '_ {
         let listed = self.block.orders.iter();
-        let numbers = listed.flat_map(|order| [order.display, order.expected, order.new]);
-        [self.count].into_iter().chain(numbers).map(Field::from)
+        let numbers = listed.flat_map(|order| {
+            [
+                order.display.into(),
+                order.expected.into(),
+                order.new.into(),
+            ]
+        });
+        [self.count.into()].into_iter().chain(numbers)
     }
 }
 
@@ -173,6 +180,13 @@ fn second_bad(count: u32) -> Parts {
     Parts { count, block }
 }
 
+/// Parts of which both releases of the second order are above the largest.
+fn second_large(count: u32) -> Parts {
+    let mut parts = second_bad(count);
+    parts.block.orders[1] = order(2, LARGEST + 1, LARGEST + 1);
+    parts
+}
+
 fn at_slot(slot: u32) -> Parts {
     let mut block = plain();
     block.slot = Slot(slot);
@@ -202,6 +216,16 @@ fn out_of_range() -> Vec<(&'static str, Parts)> {
         ("slot 0", at_slot(0)),
         ("slot 257", at_slot(257)),
         ("slot 65,537", at_slot(65_537)),
+        (
+            "expected 34,359,738,368",
+            with_order(order(2, LARGEST + 1, 1)),
+        ),
+        ("new 34,359,738,368", with_order(order(2, 0, LARGEST + 1))),
+        ("new 2^64 - 1", with_order(order(2, 0, u64::MAX))),
+        (
+            "new 34,359,738,368 in the second of two orders",
+            second_large(2),
+        ),
     ]
 }
 
@@ -229,6 +253,13 @@ fn whole_buffers() -> Vec<Case> {
         write(("one order, exactly fitting", one, 165, 0)).by_hand(format!("next 165 {PLAIN}")),
         write(("the longest, exactly fitting", Parts::of(longest()), 251, 0)),
         write(("every part unlike the others", Parts::of(mixed()), 251, 0)),
+        write((
+            "from 4,294,967,296 to the largest release",
+            with_order(order(2, 1 << 32, LARGEST)),
+            173,
+            0,
+        ))
+        .by_hand("next 173 00*32+0102+80*4+10+ff*4+7f+09*65+f6*64"),
     ]
 }
 
@@ -270,6 +301,13 @@ fn parts_not_judged() -> Vec<Case> {
         ))
         .by_hand(format!("next 165 {PLAIN}+ee*5")),
         write((
+            "releases of 34,359,738,368 behind the count",
+            second_large(1),
+            170,
+            0,
+        ))
+        .by_hand(format!("next 165 {PLAIN}+ee*5")),
+        write((
             "a new release not above the expected one",
             not_above,
             165,
@@ -303,6 +341,13 @@ fn fronts() -> Vec<Case> {
         front((
             "an order of display 64 behind the count",
             second_bad(1),
+            101,
+            0,
+        ))
+        .by_hand(format!("next 101 {PLAIN_FRONT}")),
+        front((
+            "releases of 34,359,738,368 behind the count",
+            second_large(1),
             101,
             0,
         ))
@@ -350,6 +395,16 @@ fn lengths() -> Vec<Case> {
             "an order of display 64 behind the count",
             second_bad(1),
             165,
+        ),
+        length(
+            "releases of 34,359,738,368 behind the count",
+            second_large(1),
+            165,
+        ),
+        length(
+            "from 4,294,967,296 to the largest release",
+            with_order(order(2, 1 << 32, LARGEST)),
+            173,
         ),
     ];
     for (name, parts) in out_of_range() {

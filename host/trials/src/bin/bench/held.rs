@@ -15,7 +15,7 @@ fn case(blocks: u32, entries: u32) -> (Case, Chain) {
     let chain = Chain::new(blocks);
     let now = chain.now;
     let order = |place: u32| {
-        let release = (1 << 28) + place / 56;
+        let release = samples::LONG_START + u64::from(place / 56);
         samples::order(8 + place % 56, release, release + 1)
     };
     let pooled: Vec<Entry> = (0..entries)

@@ -1,22 +1,22 @@
--- `block::writing::displays_known` meets its contract.
+-- `block::writing::orders_in_range` meets its contract.
 -- Assumes nothing.
 use mathlib.Core.Path.{_≡_, refl, sym, ap, _∙_}
 use mathlib.Core.Bool.{true}
-use Prim.Native.Nat.{ℕ, zero-le, _-_, _≤_}
+use Prim.Native.Nat.{ℕ, _-_, _≤_}
 use native.Mathlib.Numerals.{add-one}
 use native.Mathlib.Omega.{arith}
 use lib.ListN.{length, length-map, take}
 use borrow.Author.Needs.{needs}
-use Rattle.laws.proofs.Every.{within-above, within-here}
+use borrow.Author.Tests.{not-true, not-false}
 use Rattle.block.specs.Answers.{noOrder}
 use Rattle.laws.specs.Every.{every}
 use Rattle.laws.proofs.Taken.{every-more, every-fails}
-use Rattle.block.specs.Blocks.{knownDisplay}
-use Rattle.block.proofs.writing.displays_known.Statement.{statement}
-use Rattle.block.proofs.writing.displays_known.Tie as tie
+use Rattle.order.specs.Order.{orderInRange}
+use Rattle.block.proofs.writing.orders_in_range.Statement.{statement}
+use Rattle.block.proofs.writing.orders_in_range.Tie as tie
 
 abbrev Inv-loop : tie.InvT-loop
-Inv-loop count list i₀ i = (i ≤ count) × (every knownDisplay (take i list) ≡ true)
+Inv-loop count list i₀ i = (i ≤ count) × (every orderInRange (take i list) ≡ true)
 
 abbrev μ-loop : tie.MeasureT-loop
 μ-loop count list i₀ i = count - i
@@ -36,14 +36,17 @@ array-copy-out-order c = search needs
 whole : (c : tie.Start Inv-loop μ-loop) → length (c .args .orders .list) ≡ 8
 whole c = sym (length-map (c .args .orders .list) _) ∙ c .good .0 .1 .1 .1 .0 .1 .0 .1
 
+in-range-requires : tie.Need-in-range-requires Inv-loop μ-loop
+in-range-requires c κs = search needs
+
 returns : tie.Need-returns Inv-loop μ-loop
 returns c =
     let test = c .before .before .before in
     let loop = test .before .loop in
     let a = test .before .before .before .before .args in
     sym
-    (every-fails knownDisplay (a .orders .list) (a .orders .count) (loop .i) noOrder (omega (arith, whole (test .before .before .before .before)))
-    (test .loop-test .taken) (within-above 0 63 _ (c .if1 .taken)))
+    (every-fails orderInRange (a .orders .list) (a .orders .count) (loop .i) noOrder (omega (arith, whole (test .before .before .before .before)))
+    (test .loop-test .taken) (sym (c .before .in-range .ensures) ∙ not-true _ (c .if1 .taken)))
 
 add-i : tie.Need-add-i Inv-loop μ-loop
 add-i c = search needs
@@ -58,8 +61,8 @@ loop-again c =
     let a = test .before .before .before .before .args in (
       omega arith,
       rw add-one
-          (every-more knownDisplay (a .orders .list) (loop .i) noOrder (omega (arith, whole (test .before .before .before .before))) (loop .inv .1)
-          (within-here 0 63 _ zero-le (c .if1 .left))),
+          (every-more orderInRange (a .orders .list) (loop .i) noOrder (omega (arith, whole (test .before .before .before .before))) (loop .inv .1)
+          (sym (c .before .in-range .ensures) ∙ not-false _ (c .if1 .left))),
     )
 
 returns-2 : tie.Need-returns-2 Inv-loop μ-loop
@@ -67,10 +70,10 @@ returns-2 c =
     let loop = c .before .loop in
     let a = c .before .before .before .before .args in
     let over : loop .i ≡ a .orders .count = omega arith in
-    sym (loop .inv .1) ∙ ap (λ (n : ℕ). every knownDisplay (take n (a .orders .list))) over
+    sym (loop .inv .1) ∙ ap (λ (n : ℕ). every orderInRange (take n (a .orders .list))) over
 
-pub displays-known-spec : {M : Type 1} → statement M
-displays-known-spec =
+pub orders-in-range-spec : {M : Type 1} → statement M
+orders-in-range-spec =
     tie.close
     (tie.spec
     Inv-loop
@@ -79,6 +82,7 @@ displays-known-spec =
     loop-holds
     mul-order
     array-copy-out-order
+    in-range-requires
     returns
     add-i
     loop-less
