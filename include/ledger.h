@@ -53,7 +53,7 @@ extern "C" {
 #endif
 
 /* The interface's version: it changes with every declaration of this header that changes. */
-#define LEDGER_VERSION 3
+#define LEDGER_VERSION 4
 
 /* Limits. */
 #define LEDGER_DISPLAYS 64           /* displays are 0 to 63 */
@@ -61,6 +61,8 @@ extern "C" {
 #define LEDGER_SLOTS 256             /* slots are 1 to 256: no chain has more blocks, and as many verdict bytes are always enough */
 #define LEDGER_ORDERS 8              /* the most orders of a block */
 #define LEDGER_POOL_ROOM 64          /* the most entries of a pool */
+#define LEDGER_DEPOTS 4              /* depots are 0 to 3 */
+#define LEDGER_DEPOT_ROOM 16         /* the most entries of one depot that may count */
 #define LEDGER_POOL_SLOTS 64         /* the most slots that an order stays pooled: u is 1 to 64 */
 #define LEDGER_NUMBER_BYTES 5        /* the most bytes of a number */
 #define LEDGER_LARGEST UINT64_C(34359738367) /* the largest number, and the largest release: 35 bits */
@@ -99,9 +101,9 @@ extern "C" {
 #define LEDGER_STACK_CHOOSE 12544
 #define LEDGER_STACK_ADOPT 12800
 #define LEDGER_STACK_POOL_ORDER 23808
-#define LEDGER_STACK_DRAFT 20992
-#define LEDGER_STACK_BLOCK_TEXT 20992
-#define LEDGER_STACK_APPEND 21248
+#define LEDGER_STACK_DRAFT 23040
+#define LEDGER_STACK_BLOCK_TEXT 23040
+#define LEDGER_STACK_APPEND 23296
 #define LEDGER_STACK_REPORT 12544
 
 /* Refusal numbers. */
@@ -112,7 +114,7 @@ enum ledger_refusal {
     LEDGER_CUT = 3,                /* bytes end inside a block or number */
     LEDGER_BAD_NUMBER = 4,         /* a number is not shortest, or too large */
     LEDGER_OUT_OF_RANGE = 5,       /* order count, display or slot out of its range; a release above the largest in an offer or a block to be
-                                      written */
+                                      written; a depot above 3 in an offer */
     LEDGER_BAD_STAMP = 6,          /* a stamp not above the one before; draft or append: held chain ends at now */
     LEDGER_LATE_STAMP = 7,         /* a delivered stamp not below now */
     LEDGER_BAD_VERDICT = 8,        /* verdict not 3, or missing */
@@ -120,14 +122,15 @@ enum ledger_refusal {
     LEDGER_BAD_ORDER = 10,         /* an order not valid at its point */
     LEDGER_NOT_LONGER = 11,        /* not more blocks than held */
     LEDGER_WRONG_CONTROLLER = 12,  /* controller not 1 to n, or not its turn */
-    LEDGER_POOL_FULL = 13,         /* 64 entries still count */
+    LEDGER_POOL_FULL = 13,         /* 64 entries still count. It can't occur: each of the four depots has room for 16 of them */
     LEDGER_BAD_OFFER = 14,         /* new order not valid where it would stand */
     LEDGER_SHORT_BUFFER = 15,      /* lent output too short */
     LEDGER_TOO_LONG = 16,          /* delivered chain over 64,256 bytes, or a slice to digest over 65,536 */
     LEDGER_BAD_HELD = 17,          /* held chain bad: longer than its buffer or than 64,256 bytes (place 0), or a block fails 3, 4, 5, 6, 9 or 10,
                                       or its stamp is above now (the block's place). It needs no verdicts, and its last stamp may equal now */
-    LEDGER_BAD_POOL = 18           /* pool bad: count above 64, or within the count an entry with a display above 63, a release above the largest,
-                                      slot 0 or a slot above now */
+    LEDGER_BAD_POOL = 18,          /* pool bad: count above 64, or within the count an entry with a display above 63, a release above the largest,
+                                      slot 0, a slot above now or a depot above 3, or more than 16 counting entries of one depot */
+    LEDGER_DEPOT_FULL = 20         /* the depot has 16 counting entries */
 };
 
 /* A slot, or a block's stamp. Apart from a number of blocks, so that neither can be taken for the other. */
@@ -167,10 +170,11 @@ typedef struct {
     uint8_t block_signature[LEDGER_SIGNATURE_BYTES];
 } ledger_block;
 
-/* An order, and the slot in which it was pooled. */
+/* An order, the slot in which it was pooled, and the depot that it came from, 0 to 3. */
 typedef struct {
     ledger_order order;
     ledger_slot slot;
+    uint32_t depot;
 } ledger_entry;
 
 /* The first `count` entries are meant. A pool of no entries is all zeros. */
@@ -331,9 +335,10 @@ ledger_adopt_answer ledger_adopt(const uint8_t *genesis, size_t genesis_length, 
                                  size_t held_room, size_t length, const uint8_t *delivered, size_t delivered_length,
                                  const uint8_t *verdicts, size_t verdicts_length);
 
-/* Pools an order behind the entries that still count: 1, 2, 17, 18, 5, 14, 13. The answer's pool takes the old one's place. */
+/* Pools an order of a depot behind the entries that still count: 1, 2, 17, 18, 5, 14, 20, 13. The answer's pool takes the old one's place. A depot
+   that has LEDGER_DEPOT_ROOM counting entries is refused (20), whatever the others have. */
 ledger_pool_answer ledger_pool_order(const uint8_t *genesis, size_t genesis_length, ledger_slot clock, const uint8_t *held,
-                                     size_t held_room, size_t length, ledger_pool pool, ledger_order order);
+                                     size_t held_room, size_t length, ledger_pool pool, ledger_order order, uint32_t depot);
 
 /* Issuing. Same arguments, same bytes: what was signed is what is appended. So ledger_draft or ledger_block_text, and ledger_append after it,
    must be given the same genesis, clock, held chain and `length`, pool, controller and slot signature, with no other call on the buffer or the
@@ -379,7 +384,7 @@ LEDGER_SIZE(ledger_orders, 200); LEDGER_AT(ledger_orders, count, 0); LEDGER_AT(l
 LEDGER_SIZE(ledger_front, 304); LEDGER_AT(ledger_front, link, 0); LEDGER_AT(ledger_front, orders, 32); LEDGER_AT(ledger_front, slot, 232);
 LEDGER_AT(ledger_front, slot_signature, 236);
 LEDGER_SIZE(ledger_block, 368); LEDGER_AT(ledger_block, front, 0); LEDGER_AT(ledger_block, block_signature, 304);
-LEDGER_SIZE(ledger_entry, 32); LEDGER_AT(ledger_entry, order, 0); LEDGER_AT(ledger_entry, slot, 24);
+LEDGER_SIZE(ledger_entry, 32); LEDGER_AT(ledger_entry, order, 0); LEDGER_AT(ledger_entry, slot, 24); LEDGER_AT(ledger_entry, depot, 28);
 LEDGER_SIZE(ledger_pool, 2056); LEDGER_AT(ledger_pool, count, 0); LEDGER_AT(ledger_pool, entries, 8);
 LEDGER_SIZE(ledger_signature, 64); LEDGER_AT(ledger_signature, bytes, 0);
 LEDGER_SIZE(ledger_genesis, 536); LEDGER_AT(ledger_genesis, n, 0); LEDGER_AT(ledger_genesis, t, 4); LEDGER_AT(ledger_genesis, u, 8);

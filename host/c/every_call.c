@@ -20,9 +20,13 @@ static bool same_block(const ledger_block *a, const ledger_block *b) {
            memcmp(a->block_signature, b->block_signature, LEDGER_SIGNATURE_BYTES) == 0;
 }
 
+static bool same_entry(ledger_entry a, ledger_entry b) {
+    return same_order(a.order, b.order) && a.slot.number == b.slot.number && a.depot == b.depot;
+}
+
 static bool same_pool(const ledger_pool *a, const ledger_pool *b) {
     for (int i = 0; i < LEDGER_POOL_ROOM; i++)
-        if (!same_order(a->entries[i].order, b->entries[i].order) || a->entries[i].slot.number != b->entries[i].slot.number)
+        if (!same_entry(a->entries[i], b->entries[i]))
             return false;
     return a->count == b->count;
 }
@@ -199,11 +203,11 @@ static int issues(const struct chain *c) {
     ledger_pool pool;
     memset(&pool, 0, sizeof pool);
     ledger_order order = {.display = 2, .expected = 42, .new_release = 300};
-    ledger_pool_answer pooled = ledger_pool_order(c->genesis, c->genesis_length, now, held, sizeof held, c->length, pool, order);
+    ledger_pool_answer pooled = ledger_pool_order(c->genesis, c->genesis_length, now, held, sizeof held, c->length, pool, order, 3);
     EXPECT(pooled.refusal == 0 && pooled.place.number == 0 && pooled.pool.count == 1);
-    EXPECT(same_order(pooled.pool.entries[0].order, order) && pooled.pool.entries[0].slot.number == 20);
+    EXPECT(same_entry(pooled.pool.entries[0], (ledger_entry){.order = order, .slot = now, .depot = 3}));
     pool = pooled.pool;
-    pooled = ledger_pool_order(c->genesis, c->genesis_length, now, held, sizeof held, c->length, pool, order);
+    pooled = ledger_pool_order(c->genesis, c->genesis_length, now, held, sizeof held, c->length, pool, order, 3);
     EXPECT(pooled.refusal == LEDGER_BAD_OFFER && same_pool(&pooled.pool, &pool));
     ledger_signature first, second;
     memset(&first, 0x51, sizeof first);
@@ -233,17 +237,51 @@ static int large_orders(const struct chain *c) {
     ledger_pool pool;
     memset(&pool, 0, sizeof pool);
     ledger_order order = {.display = 2, .expected = 42, .new_release = LEDGER_LARGEST + 1};
-    ledger_pool_answer pooled = ledger_pool_order(genesis, n, now, c->bytes, sizeof c->bytes, c->length, pool, order);
+    ledger_pool_answer pooled = ledger_pool_order(genesis, n, now, c->bytes, sizeof c->bytes, c->length, pool, order, 0);
     EXPECT(pooled.refusal == LEDGER_OUT_OF_RANGE && pooled.place.number == 0 && same_pool(&pooled.pool, &pool));
     order.new_release = LEDGER_LARGEST;
     pool.entries[7].order.expected = LEDGER_LARGEST + 1;
-    pooled = ledger_pool_order(genesis, n, now, c->bytes, sizeof c->bytes, c->length, pool, order);
+    pooled = ledger_pool_order(genesis, n, now, c->bytes, sizeof c->bytes, c->length, pool, order, 0);
     EXPECT(pooled.refusal == 0 && pooled.pool.count == 1 && same_order(pooled.pool.entries[0].order, order));
     EXPECT(pooled.pool.entries[7].order.expected == 0);
     pool = pooled.pool;
     pool.entries[0].order.new_release = LEDGER_LARGEST + 1;
-    pooled = ledger_pool_order(genesis, n, now, c->bytes, sizeof c->bytes, c->length, pool, order);
+    pooled = ledger_pool_order(genesis, n, now, c->bytes, sizeof c->bytes, c->length, pool, order, 0);
     EXPECT(pooled.refusal == LEDGER_BAD_POOL && same_pool(&pooled.pool, &pool));
+    return 0;
+}
+
+/* Fills a depot's room at slot 20, display by display: each order is valid where the genesis has it, at release 0. */
+static ledger_pool crowded(const struct chain *c, uint32_t depot) {
+    ledger_pool pool;
+    memset(&pool, 0, sizeof pool);
+    for (uint32_t i = 0; i < LEDGER_DEPOT_ROOM; i++) {
+        ledger_order order = {.display = 3 + i, .expected = 0, .new_release = 1};
+        pool = ledger_pool_order(c->genesis, c->genesis_length, (ledger_slot){20}, c->bytes, sizeof c->bytes, c->length, pool, order, depot).pool;
+    }
+    return pool;
+}
+
+/* A depot has room for 16 counting entries, whatever the others have: then 20. A depot above 3 is 5 where it offers, and 18 in the pool, and so are
+   17 counting entries of one. */
+static int depots(const struct chain *c) {
+    const ledger_slot now = {20};
+    const uint8_t *genesis = c->genesis;
+    const size_t n = c->genesis_length;
+    const ledger_order order = {.display = 2, .expected = 42, .new_release = 43};
+    ledger_pool pool = crowded(c, 1);
+    EXPECT(pool.count == LEDGER_DEPOT_ROOM && pool.entries[15].depot == 1 && pool.entries[16].depot == 0);
+    ledger_pool_answer pooled = ledger_pool_order(genesis, n, now, c->bytes, sizeof c->bytes, c->length, pool, order, 1);
+    EXPECT(pooled.refusal == LEDGER_DEPOT_FULL && pooled.place.number == 0 && same_pool(&pooled.pool, &pool));
+    pooled = ledger_pool_order(genesis, n, now, c->bytes, sizeof c->bytes, c->length, pool, order, LEDGER_DEPOTS);
+    EXPECT(pooled.refusal == LEDGER_OUT_OF_RANGE && same_pool(&pooled.pool, &pool));
+    pooled = ledger_pool_order(genesis, n, now, c->bytes, sizeof c->bytes, c->length, pool, order, LEDGER_DEPOTS - 1);
+    EXPECT(pooled.refusal == 0 && pooled.pool.count == 17 && pooled.pool.entries[16].depot == 3);
+    pool = pooled.pool;
+    pool.entries[16].depot = 1;
+    EXPECT(ledger_pool_order(genesis, n, now, c->bytes, sizeof c->bytes, c->length, pool, order, 0).refusal == LEDGER_BAD_POOL);
+    pool.entries[16].depot = LEDGER_DEPOTS;
+    EXPECT(ledger_pool_order(genesis, n, now, c->bytes, sizeof c->bytes, c->length, pool, order, 0).refusal == LEDGER_BAD_POOL);
     return 0;
 }
 
@@ -313,8 +351,8 @@ static int nothing_held(const struct chain *c) {
     ledger_order order = {.display = 2, .expected = 40, .new_release = 41};
     ledger_signature sign;
     memset(&sign, 0x51, sizeof sign);
-    EXPECT(ledger_pool_order(NULL, 0, now, NULL, 0, 0, pool, order).refusal == LEDGER_BAD_GENESIS);
-    EXPECT(ledger_pool_order(genesis, n, now, NULL, 0, 0, pool, order).pool.count == 1);
+    EXPECT(ledger_pool_order(NULL, 0, now, NULL, 0, 0, pool, order, 0).refusal == LEDGER_BAD_GENESIS);
+    EXPECT(ledger_pool_order(genesis, n, now, NULL, 0, 0, pool, order, 0).pool.count == 1);
     EXPECT(ledger_draft(NULL, 0, now, NULL, 0, 0, pool, 2, sign, NULL, 0).refusal == LEDGER_BAD_GENESIS);
     EXPECT(ledger_draft(genesis, n, now, NULL, 0, 0, pool, 2, sign, NULL, 0).refusal == LEDGER_SHORT_BUFFER);
     EXPECT(ledger_draft(genesis, n, now, NULL, 0, 0, pool, 2, sign, out, sizeof out).length == 32 + 1 + 1 + 64);
@@ -335,6 +373,6 @@ int main(void) {
     const int lines[] = {numbers(),        large_numbers(), digests(),            tables(),        blocks(),
                          large_releases(), a_large_start(), checks(&chain),       adopts(&chain),  issues(&chain),
                          nothing_lent(),   reports(&chain), large_orders(&chain), nothing_delivered(&chain),
-                         nothing_held(&chain)};
+                         nothing_held(&chain), depots(&chain)};
     return exit_status("every_call.c", lines, sizeof lines / sizeof *lines);
 }

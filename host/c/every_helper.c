@@ -363,16 +363,17 @@ static int names(void) {
     } all[] = {
         NAMED(NO_REFUSAL), NAMED(BAD_GENESIS), NAMED(BAD_CLOCK), NAMED(CUT), NAMED(BAD_NUMBER), NAMED(OUT_OF_RANGE), NAMED(BAD_STAMP),
         NAMED(LATE_STAMP), NAMED(BAD_VERDICT), NAMED(BAD_LINK), NAMED(BAD_ORDER), NAMED(NOT_LONGER), NAMED(WRONG_CONTROLLER),
-        NAMED(POOL_FULL), NAMED(BAD_OFFER), NAMED(SHORT_BUFFER), NAMED(TOO_LONG), NAMED(BAD_HELD), NAMED(BAD_POOL),
+        NAMED(POOL_FULL), NAMED(BAD_OFFER), NAMED(SHORT_BUFFER), NAMED(TOO_LONG), NAMED(BAD_HELD), NAMED(BAD_POOL), NAMED(DEPOT_FULL),
     };
 #undef NAMED
+    const uint32_t none[] = {LEDGER_BAD_POOL + 1, LEDGER_DEPOT_FULL + 1, UINT32_MAX};
     for (uint32_t i = 0; i < sizeof all / sizeof *all; i++) {
-        EXPECT(all[i].number == i && strcmp(ledger_refusal_name(i), all[i].name) == 0);
+        EXPECT(strcmp(ledger_refusal_name(all[i].number), all[i].name) == 0);
         for (uint32_t j = 0; j < i; j++)
-            EXPECT(strcmp(ledger_refusal_words(i), ledger_refusal_words(j)) != 0);
+            EXPECT(all[j].number < all[i].number && strcmp(ledger_refusal_words(all[i].number), ledger_refusal_words(all[j].number)) != 0);
     }
-    EXPECT(strcmp(ledger_refusal_name(LEDGER_BAD_POOL + 1), "UNKNOWN") == 0 && strcmp(ledger_refusal_name(UINT32_MAX), "UNKNOWN") == 0);
-    EXPECT(strcmp(ledger_refusal_words(UINT32_MAX), "no refusal of this version") == 0);
+    for (uint32_t i = 0; i < sizeof none / sizeof *none; i++)
+        EXPECT(strcmp(ledger_refusal_name(none[i]), "UNKNOWN") == 0 && strcmp(ledger_refusal_words(none[i]), "no refusal of this version") == 0);
     return 0;
 }
 

@@ -27,6 +27,7 @@ static inline void expect(const char *what, bool holds) {
 
 #define MOST_CONTROLLERS 6
 #define DISPLAY 4
+#define DEPOT 0
 
 /* The station's table, the same bytes on every controller, and the controllers' keys. */
 static uint8_t genesis[LEDGER_GENESIS_BYTES];

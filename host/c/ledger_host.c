@@ -178,7 +178,7 @@ ledger_issue_answer ledger_issue(const uint8_t *genesis, size_t genesis_length, 
     return ledger_append(genesis, genesis_length, clock, held, held_room, length, pool, controller, slot_signature, block_signature);
 }
 
-/* By number. */
+/* By number. Where there is no name, no call of this version answers the number. */
 static const struct {
     const char *name;
     const char *words;
@@ -188,7 +188,7 @@ static const struct {
     {"BAD_CLOCK", "the slot is not 1 to 256"},
     {"CUT", "a block or a number is cut"},
     {"BAD_NUMBER", "a number is badly written: not in its shortest form, or too large"},
-    {"OUT_OF_RANGE", "a count, a display, a release or a slot is out of its range"},
+    {"OUT_OF_RANGE", "a count, a display, a depot, a release or a slot is out of its range"},
     {"BAD_STAMP", "a block's slot is not above the one before it; to be issued: the held chain already has a block of this slot"},
     {"LATE_STAMP", "a delivered block's slot is not below the clock's"},
     {"BAD_VERDICT", "a block's signatures do not verify, or nobody said whether they do"},
@@ -202,10 +202,11 @@ static const struct {
     {"TOO_LONG", "a delivered chain has more than 64,256 bytes, or what is to be digested more than 65,536"},
     {"BAD_HELD", "the held chain is bad: put its length to 0 and take the next whole chain"},
     {"BAD_POOL", "the order pool is bad: empty it"},
+    [LEDGER_DEPOT_FULL] = {"DEPOT_FULL", "the depot has 16 counting entries in the order pool"},
 };
 
-#define REFUSALS (sizeof refusals / sizeof *refusals)
+static bool known(uint32_t refusal) { return refusal < sizeof refusals / sizeof *refusals && refusals[refusal].name != NULL; }
 
-const char *ledger_refusal_name(uint32_t refusal) { return refusal < REFUSALS ? refusals[refusal].name : "UNKNOWN"; }
+const char *ledger_refusal_name(uint32_t refusal) { return known(refusal) ? refusals[refusal].name : "UNKNOWN"; }
 
-const char *ledger_refusal_words(uint32_t refusal) { return refusal < REFUSALS ? refusals[refusal].words : "no refusal of this version"; }
+const char *ledger_refusal_words(uint32_t refusal) { return known(refusal) ? refusals[refusal].words : "no refusal of this version"; }

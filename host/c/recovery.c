@@ -52,7 +52,7 @@ static void deliver(ledger_slot now) {
 
 static ledger_pool_answer offer(controller *to, ledger_slot now, uint64_t expected, uint64_t new_release) {
     ledger_order order = {.display = DISPLAY, .expected = expected, .new_release = new_release};
-    ledger_pool_answer pooled = ledger_pool_order(genesis, genesis_length, now, to->held, sizeof to->held, to->length, to->pool, order);
+    ledger_pool_answer pooled = ledger_pool_order(genesis, genesis_length, now, to->held, sizeof to->held, to->length, to->pool, order, DEPOT);
     to->pool = pooled.pool;
     return pooled;
 }

@@ -36,7 +36,7 @@ static void deliver(controller *to, const controller *from, ledger_slot now) {
 /* The pool that comes back takes the old one's place. */
 static void offer(controller *to, ledger_slot now, uint64_t expected, uint64_t new_release) {
     ledger_order order = {.display = DISPLAY, .expected = expected, .new_release = new_release};
-    ledger_pool_answer pooled = ledger_pool_order(genesis, genesis_length, now, to->held, sizeof to->held, to->length, to->pool, order);
+    ledger_pool_answer pooled = ledger_pool_order(genesis, genesis_length, now, to->held, sizeof to->held, to->length, to->pool, order, DEPOT);
     accepted("pool", pooled.refusal, pooled.place);
     to->pool = pooled.pool;
     line(to, now);

@@ -68,7 +68,7 @@ static void choose(void) { refusal = ledger_choose(G, now, held, sample.first, s
 static void adopt(void) {
     refusal = ledger_adopt(G, now, held, sizeof held, sample.first, sample.bytes, sample.length, good, 2).refusal;
 }
-static void pool_order(void) { refusal = ledger_pool_order(G, now, HELD, pool, order).refusal; }
+static void pool_order(void) { refusal = ledger_pool_order(G, now, HELD, pool, order, 0).refusal; }
 static void draft(void) { refusal = ledger_draft(G, now, HELD, pool, 2, signature, out, sizeof out).refusal; }
 static void block_text(void) { refusal = ledger_block_text(G, now, HELD, pool, 2, signature, out, sizeof out).refusal; }
 static void append(void) { refusal = ledger_append(G, now, HELD, pool, 2, signature, signature).refusal; }
@@ -139,7 +139,7 @@ static void make_sample(void) {
     memcpy(held, sample.bytes, sample.length);
     table = ledger_read_genesis(G).table;
     block = block_after(G, 1, 40);
-    pool = ledger_pool_order(G, now, HELD, pool, order).pool;
+    pool = ledger_pool_order(G, now, HELD, pool, order, 0).pool;
     order = (ledger_order){.display = 2, .expected = 43, .new_release = 44};
 }
 

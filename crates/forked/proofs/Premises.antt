@@ -25,15 +25,11 @@ use Rattle.forked.proofs.Different.{one-digest-one-block, not-the-genes
 -- ---- what is delivered
 bytesOf : Event → List ℕ
 bytesOf (delivery bytes v) = bytes
-bytesOf (offer order) = []
+bytesOf (offer order depot) = []
 
 verdictsOf : Event → List ℕ
 verdictsOf (delivery bytes v) = v
-verdictsOf (offer order) = []
-
-isOffer : Event → ℕ
-isOffer (delivery bytes v) = 0
-isOffer (offer order) = 1
+verdictsOf (offer order depot) = []
 
 -- what a controller meets in slot k + 2
 met-in-slot : (e : Event) (i k : ℕ) → Among e (events i (suc (suc k))) → e ≡ delivery (chainBytes (given i k)) verdicts

@@ -42,7 +42,7 @@ opened-link genesis clock o e =
 -- ---- one more block
 module _ (o : Opened) (buffer : List ℕ) (size : ℕ) (h : Summary) (bytes : Bytes buffer) (holds : heldChain o buffer size ≡ gives h)
     (digest : Digest (o .link)) (clock : within 1 256 (o .clock .0) ≡ true) (pool : Pool) (signature seal : List ℕ) (given : Given signature seal)
-    (pool-fits : poolFits (o .clock .0) pool ≡ true) (later : h .whole .stamp .0 < o .clock .0) where
+    (pool-fits : poolFits o h pool ≡ true) (later : h .whole .stamp .0 < o .clock .0) where
   abbrev p : Parts
   p = nextParts o h pool signature seal
 

@@ -117,12 +117,12 @@ next-follows o held pool signature seal later =
 
 -- ---- and its parts fit
 pub next-parts-fit : (o : Opened) (held : Summary) (pool : Pool) (signature seal : List ℕ) → Digest (held .whole .link) → Given signature seal
-    → poolFits (o .clock .0) pool ≡ true → within 1 256 (o .clock .0) ≡ true → Fits (nextParts o held pool signature seal)
+    → poolFits o held pool ≡ true → within 1 256 (o .clock .0) ≡ true → Fits (nextParts o held pool signature seal)
 next-parts-fit o held pool signature seal digest given fits clock = record {
   link-size = digest .size;
   link-bytes = digest .bytes;
   count = within-here 0 8 (length (taken o held pool)) zero-le (taken-fine o held pool .few);
-  orders = taken-in-range o held pool (o .clock .0) fits;
+  orders = taken-in-range o held pool fits;
   slot = clock;
   slot-signature-size = given .signature-size;
   slot-signature-bytes = given .signature-bytes;

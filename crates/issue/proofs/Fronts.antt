@@ -71,9 +71,9 @@ module _ (o : Opened) (held : Summary) (pool : Pool) where
   pub taken-fine : Fine 8 (held .whole .releases) (taking 8 (held .whole .releases) (ordersOf (counting o held pool)))
   taken-fine = taking-fine 8 (held .whole .releases) (ordersOf (counting o held pool))
 
-  module _ (clock : ℕ) (fits : poolFits clock pool ≡ true) where
+  module _ (fits : poolFits o held pool ≡ true) where
     pub taken-in-range : Each OrderFits (taken o held pool)
-    taken-in-range = taking-each OrderFits 8 (held .whole .releases) (ordersOf (counting o held pool)) (counting-in-range o held clock pool fits)
+    taken-in-range = taking-each OrderFits 8 (held .whole .releases) (ordersOf (counting o held pool)) (counting-in-range o held pool fits)
 
     pub next-fits : (signature : List ℕ) → within 1 256 (o .clock .0) ≡ true → frontFits (nextFront o held pool signature) ≡ true
     next-fits signature slot =
@@ -100,7 +100,7 @@ pub front-fits : (genesis : List ℕ) (clock : ℕ) (held : List ℕ) (size : �
 unfolding front
 front-fits genesis clock held size pool controller signature f e =
     let (h, holds, rest) = then-gives (holding genesis clock held size) _ f e in
-    let (fits, rest′) = unless-gives (poolFits (h .0 .clock .0) pool) 18 0 _ f rest in
+    let (fits, rest′) = unless-gives (poolFits (h .0) (h .1) pool) 18 0 _ f rest in
     let (turn, rest″) = unless-gives (mayIssue (h .0) controller) 12 0 _ f rest′ in
     let (later, is) = unless-gives (ltb (h .1 .whole .stamp .0) (h .0 .clock .0)) 6 0 _ f rest″ in
-    subst (λ (q : Front). frontFits q ≡ true) (gives-same is) (next-fits (h .0) (h .1) pool (h .0 .clock .0) fits signature (clock-fits genesis clock held size h holds))
+    subst (λ (q : Front). frontFits q ≡ true) (gives-same is) (next-fits (h .0) (h .1) pool fits signature (clock-fits genesis clock held size h holds))

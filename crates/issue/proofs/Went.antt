@@ -40,7 +40,7 @@ module _ (genesis : List ℕ) (clock : ℕ) (buffer : List ℕ) (size : ℕ) (po
 
   -- what the call went by
   pub record Went : Type 0 where
-    pub pooled : poolFits (o .clock .0) pool ≡ true
+    pub pooled : poolFits o h pool ≡ true
     pub later : h .whole .stamp .0 < o .clock .0
     pub fits : placed buffer size (appendBytes seal (nextFront o h pool signature)) ≡ gives next
     pub is : after ≡ placing buffer size (appendBytes seal (nextFront o h pool signature))
@@ -49,7 +49,7 @@ module _ (genesis : List ℕ) (clock : ℕ) (buffer : List ℕ) (size : ℕ) (po
   went =
       let (f, is, fits) = then-gives (fronting o h pool controller signature) _ next
       (ap (λ (t : Told Front). writing (appendBytes seal) t buffer size) (sym front-is) ∙ append) in
-      let (pooled, rest) = unless-gives (poolFits (o .clock .0) pool) 18 0 _ f is in
+      let (pooled, rest) = unless-gives (poolFits o h pool) 18 0 _ f is in
       let (_, rest′) = unless-gives (mayIssue o controller) 12 0 _ f rest in
       let (late, same) = unless-gives (ltb (h .whole .stamp .0) (o .clock .0)) 6 0 _ f rest′ in
       let front-same : f ≡ nextFront o h pool signature = sym (gives-same same) in

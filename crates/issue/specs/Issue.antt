@@ -38,7 +38,7 @@ nextFront o held pool signature = record {
 -- 18, 12, and 6: "held chain ends at now"
 abbrev pub fronting : Opened → Summary → Pool → (controller : ℕ) → List ℕ → Told Front
 fronting o held pool controller signature =
-    unless (poolFits (o .clock .0) pool) 18 0
+    unless (poolFits o held pool) 18 0
     (unless (mayIssue o controller) 12 0
     (unless (ltb (held .whole .stamp .0) (o .clock .0)) 6 0 (gives (nextFront o held pool signature))))
 

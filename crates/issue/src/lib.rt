@@ -127,7 +127,7 @@ fn behind(
     ensures { λ r. ⌜ toldFronted r ≡ spec.fronting opened held pool controller signature ⌝ }
 {
     let slot = opened.clock;
-    if !pool::fits(slot, pool) {
+    if !pool::fits(opened, held, pool) {
         return no_front(BAD_POOL, BlockCount(0));
     }
     if !may_issue(opened, controller) {

@@ -39,10 +39,11 @@ pub extern "C" fn ledger_pool_order(
     length: usize,
     pool: Pool,
     order: Order,
+    depot: u32,
 ) -> PoolAnswer
-    ensures { λ r. ⌜ r ≡ poolAnswer pool (offered (now (genesis .entry)) (clock .0) (now (held .entry)) length pool order) ⌝ }
+    ensures { λ r. ⌜ r ≡ poolAnswer pool (offered (now (genesis .entry)) (clock .0) (now (held .entry)) length pool order depot) ⌝ }
 {
-    let offered = pool::offer(genesis, clock, held, length, pool, order);
+    let offered = pool::offer(genesis, clock, held, length, pool, order, depot);
     let answer = offered.answer;
     let after = offered.pool;
     PoolAnswer {

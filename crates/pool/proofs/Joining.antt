@@ -1,6 +1,6 @@
 -- An order behind the entries that count: each way it may go.
 -- Assumes nothing.
-use Prim.Native.Nat.{_+_, _<_, _≤_}
+use Prim.Native.Nat.{ℕ, _+_, _<_, _≤_}
 use mathlib.Core.Path.{_≡_, sym, ap}
 use mathlib.Core.Bool.{true, false}
 use mathlib.Core.List.{List, [], _∷_, _++_}
@@ -15,7 +15,7 @@ use Rattle.order.specs.Order.{orderInRange, valid}
 use Rattle.order.specs.declared.Order.{Order}
 use Rattle.chain.specs.declared.Opened.{Opened}
 use Rattle.chain.specs.declared.Summary.{Summary}
-use Rattle.pool.specs.Pool.{room, noEntry, entriesIn, poolOf, counts, counting, ordersOf, taking, joined}
+use Rattle.pool.specs.Pool.{room, depots, depotRoom, noEntry, entriesIn, poolOf, counts, counting, ordersOf, shareOf, taking, offerFits, joined}
 use Rattle.pool.specs.declared.Entry.{Entry}
 use Rattle.pool.specs.declared.Pool.{Pool}
 
@@ -38,17 +38,25 @@ counting-few o held p long =
     (λ few. omega (arith, length-take-le (p .count) (p .entries) (omega arith))) in
     omega (arith, those-fewer (counts o held) (entriesIn p))
 
-module _ (o : Opened) (held : Summary) (l : List Entry) (order : Order) where
-  pub out-of-range : orderInRange order ≡ false → joined o held l order ≡ refuses 5 0
+module _ (o : Opened) (held : Summary) (l : List Entry) (order : Order) (depot : ℕ) where
+  pub out-of-range : orderInRange order ≡ false → joined o held l order depot ≡ refuses 5 0
   out-of-range e = rw e
 
   module _ (inside : orderInRange order ≡ true) where
-    pub not-valid : valid (taking room (held .whole .releases) (ordersOf l) .releases) order ≡ false → joined o held l order ≡ refuses 14 0
-    not-valid e = rw (e, inside)
+    pub no-depot : depots ≤ depot → joined o held l order depot ≡ refuses 5 0
+    no-depot h = rw (inside, le-ltb depot depots h)
 
-    module _ (fine : valid (taking room (held .whole .releases) (ordersOf l) .releases) order ≡ true) where
-      pub full : room ≤ length l → joined o held l order ≡ refuses 13 0
-      full h = rw (fine, inside, le-ltb (length l) room h)
+    module _ (known : depot < depots) where
+      fits : offerFits order depot ≡ true
+      fits = rw inside (lt-ltb depot depots known)
 
-      pub joins : length l < room → joined o held l order ≡ gives (poolOf (l ++ (record { order = order; slot = o .clock } ∷ [])))
-      joins h = rw (fine, inside, lt-ltb (length l) room h)
+      pub not-valid : valid (taking room (held .whole .releases) (ordersOf l) .releases) order ≡ false → joined o held l order depot ≡ refuses 14 0
+      not-valid e = rw (fits, e)
+
+      module _ (fine : valid (taking room (held .whole .releases) (ordersOf l) .releases) order ≡ true) where
+        pub depot-full : depotRoom ≤ shareOf depot l → joined o held l order depot ≡ refuses 20 0
+        depot-full h = rw (fits, fine, le-ltb (shareOf depot l) depotRoom h)
+
+        pub joins : shareOf depot l < depotRoom → length l < room
+            → joined o held l order depot ≡ gives (poolOf (l ++ (record { order = order; slot = o .clock; depot = depot } ∷ [])))
+        joins less h = rw (fits, fine, lt-ltb (shareOf depot l) depotRoom less, lt-ltb (length l) room h)

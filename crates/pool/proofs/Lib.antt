@@ -1,4 +1,6 @@
 pub mod Pools
+pub mod Shares
 pub mod Joining
 pub mod Takings
 pub mod Answers
+pub mod Theorems

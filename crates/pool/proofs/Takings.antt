@@ -3,7 +3,7 @@
 use mathlib.Core.Path.{_≡_, refl, _∙_}
 use mathlib.Core.Bool.{Bool, true, false}
 use mathlib.Core.List.{List, [], _∷_, _++_}
-use Prim.Native.Nat.{ℕ, _≤_, zero-le}
+use Prim.Native.Nat.{ℕ, _<_, _≤_, zero-le}
 use native.Mathlib.Omega.{arith}
 use lib.Dec.{ltb, leb}
 use lib.ListN.{length, length-append}
@@ -19,7 +19,7 @@ use Rattle.order.specs.Order.{orderInRange, valid, applied, obeyed}
 use Rattle.order.specs.declared.Order.{Order}
 use Rattle.chain.specs.declared.Opened.{Opened}
 use Rattle.chain.specs.declared.Summary.{Summary}
-use Rattle.pool.specs.Pool.{room, entriesIn, entryFits, poolFits, counts, counting, ordersOf, Taking, takeOne, taking}
+use Rattle.pool.specs.Pool.{room, depots, entriesIn, entryFits, entriesFit, sharesFit, poolFits, counts, counting, ordersOf, Taking, takeOne, taking}
 use Rattle.pool.specs.declared.Entry.{Entry}
 use Rattle.pool.specs.declared.Pool.{Pool}
 
@@ -76,15 +76,35 @@ module _ (P : Order → Type 0) (limit : ℕ) where
   unfolding taking
   taking-each releases orders each = each-taken orders (record { orders = []; releases = releases }) each tt
 
+-- what an entry that fits is
+pub entry-parts : (clock : ℕ) (e : Entry) → entryFits clock e ≡ true
+    → (orderInRange (e .order) ≡ true) × (e .depot < depots) × (within 1 clock (e .slot .0) ≡ true)
+entry-parts clock e fits =
+    let (order, rest) = both-true (orderInRange (e .order)) (both (ltb (e .depot) depots) (within 1 clock (e .slot .0))) fits in
+    let (known, slot) = both-true (ltb (e .depot) depots) (within 1 clock (e .slot .0)) rest in
+    (order, ltb-true (e .depot) depots known, slot)
+
 -- the orders of a pool that fits are in their range, and so are those of the entries that count
 each-orders : (l : List Entry) → Each (λ e. orderInRange (e .order) ≡ true) l → Each (λ o. orderInRange o ≡ true) (ordersOf l)
 each-orders [] each = tt
 each-orders (e ∷ l) (here, rest) = (here, each-orders l rest)
 
-pub counting-in-range : (o : Opened) (held : Summary) (clock : ℕ) (p : Pool) → poolFits clock p ≡ true
-    → Each (λ order. orderInRange order ≡ true) (ordersOf (counting o held p))
-counting-in-range o held clock p fits =
-    let (_, all) = both-true (leb (p .count) room) (every (entryFits clock) (entriesIn p)) fits in
-    let entries = each-weaker (λ e fine. both-true (orderInRange (e .order)) (within 1 clock (e .slot .0)) fine .0) (entriesIn p)
-    (every-each (entryFits clock) (entriesIn p) all) in
-    each-orders (counting o held p) (each-those (λ e. orderInRange (e .order) ≡ true) (counts o held) (entriesIn p) entries)
+module _ (o : Opened) (held : Summary) (p : Pool) (fits : poolFits o held p ≡ true) where
+  entries-fit : Each (λ e. entryFits (o .clock .0) e ≡ true) (entriesIn p)
+  entries-fit =
+      let (entries, _) = both-true (entriesFit (o .clock .0) p) (sharesFit (counting o held p)) fits in
+      let (_, every-one) = both-true (leb (p .count) room) (every (entryFits (o .clock .0)) (entriesIn p)) entries in
+      every-each (entryFits (o .clock .0)) (entriesIn p) every-one
+
+  counting-fit : Each (λ e. entryFits (o .clock .0) e ≡ true) (counting o held p)
+  counting-fit = each-those (λ e. entryFits (o .clock .0) e ≡ true) (counts o held) (entriesIn p) entries-fit
+
+  pub counting-in-range : Each (λ order. orderInRange order ≡ true) (ordersOf (counting o held p))
+  counting-in-range = each-orders (counting o held p) (each-weaker (λ e fine. entry-parts (o .clock .0) e fine .0) (counting o held p) counting-fit)
+
+  -- each is some depot's, and no depot has more than its share
+  pub counting-known : Each (λ e. e .depot < depots) (counting o held p)
+  counting-known = each-weaker (λ e fine. entry-parts (o .clock .0) e fine .1) (counting o held p) counting-fit
+
+  pub counting-shares : sharesFit (counting o held p) ≡ true
+  counting-shares = both-true (entriesFit (o .clock .0) p) (sharesFit (counting o held p)) fits .1

@@ -1,9 +1,9 @@
--- 01, "Pool an order": "The pool is up to 64 entries, each an order and its entry slot."
+-- 01, "Pool an order": "The pool is up to 64 entries, each an order and its entry slot." 02, d: "Each entry carries its depot, 0 to 3".
 -- Assumes nothing.
-use Prim.Native.Nat.{ℕ, _+_}
-use mathlib.Core.Bool.{Bool}
+use Prim.Native.Nat.{ℕ, zero, suc, _+_}
+use mathlib.Core.Bool.{Bool, true}
 use mathlib.Core.List.{List, [], _∷_, _++_, map}
-use lib.Dec.{ltb, leb}
+use lib.Dec.{ltb, leb, eqb}
 use lib.ListN.{length, take}
 use Rattle.laws.specs.Pick.{pick}
 use Rattle.laws.specs.Told.{Told, gives, then, unless}
@@ -21,8 +21,15 @@ use Rattle.pool.specs.declared.Pool.{Pool}
 abbrev pub room : ℕ
 room = 64
 
+abbrev pub depots : ℕ
+depots = 4
+
+-- "a depot may have at most 16 counting entries"
+abbrev pub depotRoom : ℕ
+depotRoom = 16
+
 abbrev pub noEntry : Entry
-noEntry = record { order = record { display = 0; expected = 0; new = 0 }; slot = record { 0 = 0 } }
+noEntry = record { order = record { display = 0; expected = 0; new = 0 }; slot = record { 0 = 0 }; depot = 0 }
 
 -- a pool's entries, and the pool of entries: "places past the count hold zeros"
 abbrev pub entriesIn : Pool → List Entry
@@ -31,12 +38,28 @@ entriesIn p = take (p .count) (p .entries)
 abbrev pub poolOf : List Entry → Pool
 poolOf l = record { count = length l; entries = tailed room noEntry l }
 
--- 18: "count above 64, or within the count an entry with a display above 63, slot 0 or slot above now"; 02, b: or "a release above the largest"
+-- 18: "count above 64, or within the count an entry with a display above 63, slot 0 or slot above now"; 02, b: or "a release above the largest"; d: or "a
+-- depot above 3"
 abbrev pub entryFits : ℕ → Entry → Bool
-entryFits clock e = both (orderInRange (e .order)) (within 1 clock (e .slot .0))
+entryFits clock e = both (orderInRange (e .order)) (both (ltb (e .depot) depots) (within 1 clock (e .slot .0)))
 
-abbrev pub poolFits : ℕ → Pool → Bool
-poolFits clock p = both (leb (p .count) room) (every (entryFits clock) (entriesIn p))
+abbrev pub entriesFit : ℕ → Pool → Bool
+entriesFit clock p = both (leb (p .count) room) (every (entryFits clock) (entriesIn p))
+
+-- how many of some entries are a depot's
+abbrev pub isOf : ℕ → Entry → Bool
+isOf depot e = eqb (e .depot) depot
+
+abbrev pub shareOf : ℕ → List Entry → ℕ
+shareOf depot entries = length (those (isOf depot) entries)
+
+-- none of the first depots has more than its share
+abbrev pub sharesBelow : ℕ → List Entry → Bool
+sharesBelow zero entries = true
+sharesBelow (suc depot) entries = both (sharesBelow depot entries) (leb (shareOf depot entries) depotRoom)
+
+abbrev pub sharesFit : List Entry → Bool
+sharesFit entries = sharesBelow depots entries
 
 -- "An entry counts while now minus its slot is less than u": now is less than its slot and u together
 abbrev pub counts : Opened → Summary → Entry → Bool
@@ -44,6 +67,10 @@ counts o held e = ltb (o .clock .0) (e .slot .0 + o .table .u)
 
 abbrev pub counting : Opened → Summary → Pool → List Entry
 counting o held p = those (counts o held) (entriesIn p)
+
+-- 18, as a whole; 02, d: or "more than 16 counting entries of one depot"
+abbrev pub poolFits : Opened → Summary → Pool → Bool
+poolFits o held p = both (entriesFit (o .clock .0) p) (sharesFit (counting o held p))
 
 abbrev pub ordersOf : List Entry → List Order
 ordersOf entries = map (λ e. e .order) entries
@@ -62,15 +89,21 @@ takeOne limit t o =
 unfoldable pub taking : ℕ → List ℕ → List Order → Taking
 taking limit releases orders = folded (takeOne limit) (record { orders = []; releases = releases }) orders
 
--- the pool after an order is offered to what counts: 5, 14, 13
-abbrev pub joined : Opened → Summary → List Entry → Order → Told Pool
-joined o held entries order =
-    unless (orderInRange order) 5 0
-    (unless (valid (taking room (held .whole .releases) (ordersOf entries) .releases) order) 14 0
-    (unless (ltb (length entries) room) 13 0 (gives (poolOf (entries ++ (record { order = order; slot = o .clock } ∷ []))))))
+-- an order and a depot that may be offered
+abbrev pub offerFits : Order → ℕ → Bool
+offerFits order depot = both (orderInRange order) (ltb depot depots)
 
--- 1, 2, 17, 18, 5, 14, 13
-abbrev pub offered : (genesis : List ℕ) (clock : ℕ) (held : List ℕ) (size : ℕ) → Pool → Order → Told Pool
-offered genesis clock held size pool order =
+-- the pool after an order is offered to what counts: 5, 14, 20, 13
+abbrev pub joined : Opened → Summary → List Entry → Order → (depot : ℕ) → Told Pool
+joined o held entries order depot =
+    unless (offerFits order depot) 5 0
+    (unless (valid (taking room (held .whole .releases) (ordersOf entries) .releases) order) 14 0
+    (unless (ltb (shareOf depot entries) depotRoom) 20 0
+    (unless (ltb (length entries) room) 13 0
+    (gives (poolOf (entries ++ (record { order = order; slot = o .clock; depot = depot } ∷ [])))))))
+
+-- 1, 2, 17, 18, 5, 14, 20, 13
+abbrev pub offered : (genesis : List ℕ) (clock : ℕ) (held : List ℕ) (size : ℕ) → Pool → Order → (depot : ℕ) → Told Pool
+offered genesis clock held size pool order depot =
     then (holding genesis clock held size) λ h.
-    unless (poolFits (h .0 .clock .0) pool) 18 0 (joined (h .0) (h .1) (counting (h .0) (h .1) pool) order)
+    unless (poolFits (h .0) (h .1) pool) 18 0 (joined (h .0) (h .1) (counting (h .0) (h .1) pool) order depot)

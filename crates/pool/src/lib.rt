@@ -10,9 +10,10 @@ use order::fewer_slots_ago;
 use refusal::Answer;
 use refusal::BAD_OFFER;
 use refusal::BAD_POOL;
+use refusal::DEPOT_FULL;
 use refusal::OUT_OF_RANGE;
-use refusal::POOL_FULL;
 ghost use mathlib.Core.Path.{_≡_};
+ghost use mathlib.Core.Bool.{true};
 ghost use Prim.Native.Nat.{_+_, _<_};
 ghost use lib.Dec.{leb};
 ghost use lib.ListN.{set};
@@ -24,11 +25,19 @@ ghost use Rattle.pool.specs.Answers.{toldOffered, poolOr, takenOf};
 // How many entries a pool has room for.
 pub const ROOM: u32 = 64;
 
+// Depots are those below this number.
+pub const DEPOTS: u32 = 4;
+
+// How many counting entries a depot may have.
+pub const DEPOT_ROOM: u32 = 16;
+
 #[repr(C)]
 pub struct Entry {
     pub order: Order,
     // the slot in which it was pooled
     pub slot: Slot,
+    // the depot that offered it
+    pub depot: u32,
 }
 
 // Any pool may be handed in.
@@ -52,8 +61,17 @@ pub struct Offered {
 }
 
 // Whether a pool is one that the calls go on with.
-pub fn fits(clock: Slot, pool: Pool) -> bool
-    ensures { λ r. ⌜ r ≡ spec.poolFits (clock .0) pool ⌝ }
+pub fn fits(opened: Opened, held: Summary, pool: Pool) -> bool
+    ensures { λ r. ⌜ r ≡ spec.poolFits opened held pool ⌝ }
+{
+    if !entries_fit(opened.clock, pool) {
+        return false;
+    }
+    shares_fit(counting(opened, held, pool))
+}
+
+fn entries_fit(clock: Slot, pool: Pool) -> bool
+    ensures { λ r. ⌜ r ≡ spec.entriesFit (clock .0) pool ⌝ }
 {
     if ROOM < pool.count {
         return false;
@@ -77,7 +95,42 @@ fn entry_fits(clock: Slot, entry: Entry) -> bool
     if !order::in_range(entry.order) {
         return false;
     }
+    if DEPOTS <= entry.depot {
+        return false;
+    }
     earlier(Slot(0), entry.slot) && !earlier(clock, entry.slot)
+}
+
+// Whether no depot has more entries than its share.
+fn shares_fit(pool: Pool) -> bool
+    ensures { λ r. ⌜ r ≡ spec.sharesFit (spec.entriesIn pool) ⌝ }
+{
+    let mut depot = 0;
+    while depot < DEPOTS {
+        if DEPOT_ROOM < of_depot(pool, depot) {
+            return false;
+        }
+        depot += 1;
+    }
+    true
+}
+
+// How many entries of a pool are a depot's.
+fn of_depot(pool: Pool, depot: u32) -> u32
+    ensures { λ r. ⌜ r ≡ spec.shareOf depot (spec.entriesIn pool) ⌝ }
+{
+    let most = least(pool.count);
+    let entries = pool.entries;
+    let mut count: u32 = 0;
+    let mut i = 0;
+    while i < most {
+        let entry = entries[i];
+        i += 1;
+        if entry.depot == depot {
+            count += 1;
+        }
+    }
+    count
 }
 
 // Whether an entry still counts.
@@ -131,6 +184,7 @@ fn none() -> Entry
             new: 0,
         },
         slot: Slot(0),
+        depot: 0,
     }
 }
 
@@ -171,9 +225,10 @@ pub fn offer(
     length: usize,
     pool: Pool,
     order: Order,
+    depot: u32,
 ) -> Offered
-    ensures answer { λ r. ⌜ toldOffered r ≡ spec.offered (now (genesis .entry)) (clock .0) (now (held .entry)) length pool order ⌝ }
-    ensures pool { λ r. ⌜ r .pool ≡ poolOr pool (spec.offered (now (genesis .entry)) (clock .0) (now (held .entry)) length pool order) ⌝ }
+    ensures answer { λ r. ⌜ toldOffered r ≡ spec.offered (now (genesis .entry)) (clock .0) (now (held .entry)) length pool order depot ⌝ }
+    ensures pool { λ r. ⌜ r .pool ≡ poolOr pool (spec.offered (now (genesis .entry)) (clock .0) (now (held .entry)) length pool order depot) ⌝ }
 {
     let holding = chain::hold(genesis, clock, held, length);
     let answer = holding.answer;
@@ -182,11 +237,11 @@ pub fn offer(
     match answer {
         Answer::Refused(number, place) => refused(number, place, pool),
         Answer::Good => {
-            if !fits(opened.clock, pool) {
+            if !fits(opened, summary, pool) {
                 return refused(BAD_POOL, BlockCount(0), pool);
             }
             let kept = counting(opened, summary, pool);
-            join(opened, summary, pool, kept, order)
+            join(opened, summary, pool, kept, order, depot)
         }
     }
 }
@@ -200,13 +255,16 @@ fn refused(number: u32, place: BlockCount, pool: Pool) -> Offered
     }
 }
 
-// An order behind the entries that count: 5, 14, 13.
-fn join(opened: Opened, held: Summary, pool: Pool, kept: Pool, order: Order) -> Offered
-    requires { ⌜ kept ≡ spec.poolOf (spec.counting opened held pool) ⌝ }
-    ensures { λ r. ⌜ toldOffered r ≡ spec.joined opened held (spec.counting opened held pool) order ⌝ }
+// An order behind the entries that count: 5, 14, 20. A pool that fits has room for the entry of a depot that has: 13 can't occur.
+fn join(opened: Opened, held: Summary, pool: Pool, kept: Pool, order: Order, depot: u32) -> Offered
+    requires { ⌜ (kept ≡ spec.poolOf (spec.counting opened held pool)) × (spec.poolFits opened held pool ≡ true) ⌝ }
+    ensures { λ r. ⌜ toldOffered r ≡ spec.joined opened held (spec.counting opened held pool) order depot ⌝ }
     ensures { λ r. ⌜ r .pool ≡ poolOr pool (toldOffered r) ⌝ }
 {
     if !order::in_range(order) {
+        return refused(OUT_OF_RANGE, BlockCount(0), pool);
+    }
+    if DEPOTS <= depot {
         return refused(OUT_OF_RANGE, BlockCount(0), pool);
     }
     let whole = held.whole;
@@ -216,11 +274,11 @@ fn join(opened: Opened, held: Summary, pool: Pool, kept: Pool, order: Order) -> 
     if !order::valid(&releases, order) {
         return refused(BAD_OFFER, BlockCount(0), pool);
     }
-    if ROOM <= kept.count {
-        return refused(POOL_FULL, BlockCount(0), pool);
+    if DEPOT_ROOM <= of_depot(kept, depot) {
+        return refused(DEPOT_FULL, BlockCount(0), pool);
     }
     let slot = opened.clock;
-    let entry = Entry { order, slot };
+    let entry = Entry { order, slot, depot };
     let joined = added(kept, entry);
     Offered {
         answer: Answer::Good,

@@ -16,7 +16,7 @@ pub const BAD_CLOCK: u32 = 2;
 pub const CUT: u32 = 3;
 // a number is not shortest, or too large
 pub const BAD_NUMBER: u32 = 4;
-// order count, display or slot out of its range
+// order count, display or slot out of its range; a release or a depot out of its range, in an offer or a block to be written
 pub const OUT_OF_RANGE: u32 = 5;
 // a stamp not above the one before; draft or append: held chain ends at now
 pub const BAD_STAMP: u32 = 6;
@@ -32,7 +32,7 @@ pub const BAD_ORDER: u32 = 10;
 pub const NOT_LONGER: u32 = 11;
 // controller not 1 to n, or not its turn
 pub const WRONG_CONTROLLER: u32 = 12;
-// 64 entries still count
+// 64 entries still count: four depots of 16 entries each can't come to that beside a new one
 pub const POOL_FULL: u32 = 13;
 // new order not valid where it would stand
 pub const BAD_OFFER: u32 = 14;
@@ -44,3 +44,5 @@ pub const TOO_LONG: u32 = 16;
 pub const BAD_HELD: u32 = 17;
 // pool bad
 pub const BAD_POOL: u32 = 18;
+// the depot has 16 counting entries
+pub const DEPOT_FULL: u32 = 20;

@@ -157,11 +157,11 @@ module _ (r : Run) where
 
       meets-fine : (e : Event) → Among e (r .events i slot) → Grown (afterEvent (r .genesis) slot s e) blocks
       meets-fine (delivery bytes verdicts) among = delivery-fine bytes verdicts among
-      meets-fine (offer order) among = record {
+      meets-fine (offer order depot) among = record {
         more = blocks;
         fine = record {
           keeps = f .keeps;
-          pooled = pooled-offer (r .genesis) slot (s .buffer) (s .size) (s .pool) order (f .pooled);
+          pooled = pooled-offer (r .genesis) slot (s .buffer) (s .size) (s .pool) order depot (f .pooled);
           of-run = f .of-run;
           verify = f .verify;
         };

@@ -33,7 +33,7 @@ use Rattle.issue.specs.Issue.{nextFront, front, writing, written, appendBytes}
 use Rattle.issue.proofs.Appending.{link-digest, followed-digest, nextParts, append-writes, next-follows, next-parts-fit}
 use Rattle.runs.specs.Runs.{Node, issues}
 use Rattle.runs.proofs.Nodes.{opening, Keeps, keeps-later, Held, held-there, opens}
-use Rattle.runs.proofs.Pools.{Pooled}
+use Rattle.runs.proofs.Pools.{Pooled, pooled-fits}
 
 -- a signature as the calls take it
 abbrev pub Signature : List ℕ → Type 0
@@ -86,7 +86,7 @@ module _ (genesis : List ℕ) (table : Genesis) (clock : ℕ) (s : Node) (blocks
       rw (
         opens genesis table (x .reads) clock (x .low) (x .high),
         held-now .is,
-        x .pooled,
+        pooled-fits o (held-now .summary) (s .pool) (x .pooled),
         x .known,
         eq-eqb (turn table clock) (x .controller) (x .is-turn),
         lt-ltb (held-now .summary .whole .stamp .0) clock later,
@@ -102,7 +102,7 @@ module _ (genesis : List ℕ) (table : Genesis) (clock : ℕ) (s : Node) (blocks
         seal-size = x .sealed .0;
         seal-bytes = x .sealed .1;
       })
-      (x .pooled)
+      (pooled-fits o (held-now .summary) (s .pool) (x .pooled))
       (within-here 1 256 clock (x .low) (x .high))
 
   behind : Behind o held (held-now .summary) block then-held

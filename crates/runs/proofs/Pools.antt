@@ -7,7 +7,7 @@ use mathlib.Core.List.{List, [], _∷_, _++_}
 use native.Mathlib.Omega.{arith}
 use lib.Dec.{ltb, leb}
 use lib.ListN.{length, length-append}
-use borrow.Author.Tests.{ltb-true, le-leb}
+use borrow.Author.Tests.{lt-ltb, ltb-true, le-leb}
 use Rattle.laws.specs.Told.{Told, gives, refuses}
 use Rattle.laws.specs.Every.{within, every}
 use Rattle.laws.specs.Format.{Each}
@@ -19,54 +19,71 @@ use Rattle.order.specs.declared.Order.{Order}
 use Rattle.chain.specs.Chain.{opened, heldChain, holding}
 use Rattle.chain.specs.declared.Opened.{Opened}
 use Rattle.chain.specs.declared.Summary.{Summary}
-use Rattle.pool.specs.Pool.{room, entriesIn, poolOf, entryFits, poolFits, counts, counting, ordersOf, taking, joined, offered}
+use Rattle.pool.specs.Pool.{room, depots, depotRoom, entriesIn, poolOf, entryFits, entriesFit, shareOf, sharesFit, poolFits, offerFits, counts, counting, ordersOf, taking, joined, offered}
 use Rattle.pool.specs.Answers.{poolOr}
 use Rattle.pool.specs.declared.Entry.{Entry}
 use Rattle.pool.specs.declared.Pool.{Pool}
 use Rattle.pool.proofs.Joining.{entries-of}
+use Rattle.pool.proofs.Shares.{fewer-fit, one-more-fits}
+use Rattle.pool.proofs.Takings.{entry-parts}
 use Rattle.issue.proofs.Appended.{opened-link}
 
--- a pool that meets no 18
-abbrev pub Pooled : ℕ → Pool → Type 0
-Pooled clock pool = poolFits clock pool ≡ true
+-- a pool that meets no 18, whatever counts of it: its entries fit, and no depot has more than its share of them all
+pub record Pooled (clock : ℕ) (pool : Pool) : Type 0 where
+  pub entries : entriesFit clock pool ≡ true
+  pub shares : sharesFit (entriesIn pool) ≡ true
+
+pub pooled-fits : (o : Opened) (h : Summary) (pool : Pool) → Pooled (o .clock .0) pool → poolFits o h pool ≡ true
+pooled-fits o h pool pooled = rw (pooled .entries) (fewer-fit (counts o h) (entriesIn pool) (pooled .shares))
 
 pub pooled-none : (clock : ℕ) (pool : Pool) → pool .count ≡ 0 → Pooled clock pool
-pooled-none clock pool none = rw none
+pooled-none clock pool none = record { entries = rw none; shares = rw none }
 
 entry-later : (clock clock′ : ℕ) → clock ≤ clock′ → (e : Entry) → entryFits clock e ≡ true → entryFits clock′ e ≡ true
 entry-later clock clock′ h e fits =
-    let (known, there) = both-true (orderInRange (e .order)) (within 1 clock (e .slot .0)) fits in
+    let (order, known, there) = entry-parts clock e fits in
     let (low, high) = within-true 1 clock (e .slot .0) there in
-    rw known (within-here 1 clock′ (e .slot .0) low (omega arith))
+    rw (order, lt-ltb (e .depot) depots known) (within-here 1 clock′ (e .slot .0) low (omega arith))
+
+entries-parts : (clock : ℕ) (pool : Pool) → entriesFit clock pool ≡ true
+    → (leb (pool .count) room ≡ true) × Each (λ e. entryFits clock e ≡ true) (entriesIn pool)
+entries-parts clock pool fits =
+    let (few, all) = both-true (leb (pool .count) room) (every (entryFits clock) (entriesIn pool)) fits in
+    (few, every-each (entryFits clock) (entriesIn pool) all)
 
 -- entries that fit, as a pool
-of-entries : (clock : ℕ) (l : List Entry) → length l ≤ room → Each (λ e. entryFits clock e ≡ true) l → Pooled clock (poolOf l)
-of-entries clock l few fit = rw (le-leb (length l) room few, entries-of l) (each-every (entryFits clock) l fit)
-
-entries-fit : (clock : ℕ) (pool : Pool) → Pooled clock pool → Each (λ e. entryFits clock e ≡ true) (entriesIn pool)
-entries-fit clock pool pooled =
-    every-each (entryFits clock) (entriesIn pool) (both-true (leb (pool .count) room) (every (entryFits clock) (entriesIn pool)) pooled .1)
+of-entries : (clock : ℕ) (l : List Entry) → length l ≤ room → Each (λ e. entryFits clock e ≡ true) l → sharesFit l ≡ true → Pooled clock (poolOf l)
+of-entries clock l few fit shares = record {
+  entries = rw (le-leb (length l) room few, entries-of l) (each-every (entryFits clock) l fit);
+  shares = rw (entries-of l) shares;
+}
 
 pub pooled-later : (clock clock′ : ℕ) (pool : Pool) → clock ≤ clock′ → Pooled clock pool → Pooled clock′ pool
 pooled-later clock clock′ pool h pooled =
-    let (few, _) = both-true (leb (pool .count) room) (every (entryFits clock) (entriesIn pool)) pooled in
-    rw few (each-every (entryFits clock′) (entriesIn pool) (each-weaker (entry-later clock clock′ h) (entriesIn pool) (entries-fit clock pool pooled)))
+    let (few, fit) = entries-parts clock pool (pooled .entries) in
+    record {
+      entries = rw few (each-every (entryFits clock′) (entriesIn pool) (each-weaker (entry-later clock clock′ h) (entriesIn pool) fit));
+      shares = pooled .shares;
+    }
 
-joined-pooled : (o : Opened) (h : Summary) (entries : List Entry) (order : Order) (pool : Pool) → 1 ≤ o .clock .0
-    → Each (λ e. entryFits (o .clock .0) e ≡ true) entries → joined o h entries order ≡ gives pool → Pooled (o .clock .0) pool
-joined-pooled o h entries order pool low fit e =
-    let new : Entry = record { order = order; slot = o .clock } in
-    let (known, rest) = unless-gives (orderInRange order) 5 0 _ pool e in
-    let (_, rest′) = unless-gives (valid (taking room (h .whole .releases) (ordersOf entries) .releases) order) 14 0 _ pool rest in
-    let (less, is) = unless-gives (ltb (length entries) room) 13 0 _ pool rest′ in
+joined-pooled : (o : Opened) (h : Summary) (l : List Entry) (order : Order) (depot : ℕ) (pool : Pool) → 1 ≤ o .clock .0
+    → Each (λ e. entryFits (o .clock .0) e ≡ true) l → sharesFit l ≡ true → joined o h l order depot ≡ gives pool → Pooled (o .clock .0) pool
+joined-pooled o h l order depot pool low fit shares e =
+    let new : Entry = record { order = order; slot = o .clock; depot = depot } in
+    let (offer, rest) = unless-gives (offerFits order depot) 5 0 _ pool e in
+    let (ranged, known) = both-true (orderInRange order) (ltb depot depots) offer in
+    let (_, rest′) = unless-gives (valid (taking room (h .whole .releases) (ordersOf l) .releases) order) 14 0 _ pool rest in
+    let (own, rest″) = unless-gives (ltb (shareOf depot l) depotRoom) 20 0 _ pool rest′ in
+    let (less, is) = unless-gives (ltb (length l) room) 13 0 _ pool rest″ in
     subst (Pooled (o .clock .0)) (gives-same is)
-    (of-entries (o .clock .0) (entries ++ (new ∷ []))
-    (omega (arith, length-append entries (new ∷ []), ltb-true (length entries) room less))
-    (each-append (λ e. entryFits (o .clock .0) e ≡ true) entries (new ∷ []) fit
-    (rw known (within-here 1 (o .clock .0) (o .clock .0) low (omega arith)), tt)))
+    (of-entries (o .clock .0) (l ++ (new ∷ []))
+    (omega (arith, length-append l (new ∷ []), ltb-true (length l) room less))
+    (each-append (λ e. entryFits (o .clock .0) e ≡ true) l (new ∷ []) fit
+    (rw (ranged, known) (within-here 1 (o .clock .0) (o .clock .0) low (omega arith)), tt))
+    (one-more-fits l new shares (ltb-true (shareOf depot l) depotRoom own)))
 
-module _ (genesis : List ℕ) (clock : ℕ) (buffer : List ℕ) (size : ℕ) (pool : Pool) (order : Order) (pooled : Pooled clock pool) where
-  offered-pooled : (after : Pool) → offered genesis clock buffer size pool order ≡ gives after → Pooled clock after
+module _ (genesis : List ℕ) (clock : ℕ) (buffer : List ℕ) (size : ℕ) (pool : Pool) (order : Order) (depot : ℕ) (pooled : Pooled clock pool) where
+  offered-pooled : (after : Pool) → offered genesis clock buffer size pool order depot ≡ gives after → Pooled clock after
   offered-pooled after e =
       let (h, holds, rest) = then-gives (holding genesis clock buffer size) _ after e in
       let (o, opens, rest′) = then-gives (opened genesis clock) _ h holds in
@@ -75,14 +92,16 @@ module _ (genesis : List ℕ) (clock : ℕ) (buffer : List ℕ) (size : ℕ) (po
       let at : h .0 .clock .0 ≡ clock = sym (ap (λ q. q .0 .clock .0) (gives-same is)) ∙ same in
       let (low, _) = within-true 1 256 (o .clock .0) fits in
       let pooled′ : Pooled (h .0 .clock .0) pool = subst (λ (n : ℕ). Pooled n pool) (sym at) pooled in
-      let (_, join) = unless-gives (poolFits (h .0 .clock .0) pool) 18 0 _ after rest in
+      let (_, fit) = entries-parts (h .0 .clock .0) pool (pooled′ .entries) in
+      let (_, join) = unless-gives (poolFits (h .0) (h .1) pool) 18 0 _ after rest in
       subst (λ (n : ℕ). Pooled n after) at
-      (joined-pooled (h .0) (h .1) (counting (h .0) (h .1) pool) order after (omega (arith, at, same))
-      (each-those (λ e. entryFits (h .0 .clock .0) e ≡ true) (counts (h .0) (h .1)) (entriesIn pool) (entries-fit (h .0 .clock .0) pool pooled′)) join)
+      (joined-pooled (h .0) (h .1) (counting (h .0) (h .1) pool) order depot after (omega (arith, at, same))
+      (each-those (λ e. entryFits (h .0 .clock .0) e ≡ true) (counts (h .0) (h .1)) (entriesIn pool) fit)
+      (fewer-fit (counts (h .0) (h .1)) (entriesIn pool) (pooled .shares)) join)
 
-  pub pooled-offer : Pooled clock (poolOr pool (offered genesis clock buffer size pool order))
-  pooled-offer = by-answer (offered genesis clock buffer size pool order) refl
+  pub pooled-offer : Pooled clock (poolOr pool (offered genesis clock buffer size pool order depot))
+  pooled-offer = by-answer (offered genesis clock buffer size pool order depot) refl
     where
-      by-answer : (t : Told Pool) → offered genesis clock buffer size pool order ≡ t → Pooled clock (poolOr pool t)
+      by-answer : (t : Told Pool) → offered genesis clock buffer size pool order depot ≡ t → Pooled clock (poolOr pool t)
       by-answer (gives after) e = offered-pooled after e
       by-answer (refuses number place) e = pooled

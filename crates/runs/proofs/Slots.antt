@@ -249,16 +249,16 @@ module _ (r : Run) (premises : Premises r) where
           own = λ mine. absurd (eqb-false (turn (r .table) slot) i e mine);
         }
 
-    offers-after : (before rest : List Order) → r .offers i slot ≡ before ++ rest → (s : Node) → After s
-        → After (folded (λ node order. afterEvent (r .genesis) slot node (offer order)) s rest)
+    offers-after : (before rest : List (Order × ℕ)) → r .offers i slot ≡ before ++ rest → (s : Node) → After s
+        → After (folded (λ node o. afterEvent (r .genesis) slot node (offer (o .0) (o .1))) s rest)
     offers-after before [] e s f = f
     offers-after before (order ∷ rest) e s f =
-        offers-after (before ++ (order ∷ [])) rest (e ∙ sym (append-assoc before (order ∷ []) rest)) (afterEvent (r .genesis) slot s (offer order))
+        offers-after (before ++ (order ∷ [])) rest (e ∙ sym (append-assoc before (order ∷ []) rest)) (afterEvent (r .genesis) slot s (offer (order .0) (order .1)))
         (record {
           blocks = f .blocks;
           fine = record {
             keeps = f .fine .keeps;
-            pooled = pooled-offer (r .genesis) slot (s .buffer) (s .size) (s .pool) order (f .fine .pooled);
+            pooled = pooled-offer (r .genesis) slot (s .buffer) (s .size) (s .pool) (order .0) (order .1) (f .fine .pooled);
             of-run = f .fine .of-run;
             verify = f .fine .verify;
           };

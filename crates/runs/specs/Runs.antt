@@ -38,7 +38,7 @@ heldBytes s = take (s .size) (s .buffer)
 
 pub data Event : Type 0 where
   delivery : (bytes verdicts : List ℕ) → Event
-  offer : Order → Event
+  offer : Order → (depot : ℕ) → Event
 
 -- an event is a call: adopt, or pool an order; what the call adopt tells, and what is kept then: the buffer, the length that is answered and the pool as
 -- the call leaves them
@@ -51,10 +51,10 @@ afterEvent genesis clock s (delivery bytes verdicts) = record {
   size = sizeAndCountOr (s .size) (adopts genesis clock s bytes verdicts) .0;
   pool = s .pool;
 }
-afterEvent genesis clock s (offer order) = record {
+afterEvent genesis clock s (offer order depot) = record {
   buffer = s .buffer;
   size = s .size;
-  pool = poolOr (s .pool) (offered genesis clock (s .buffer) (s .size) (s .pool) order);
+  pool = poolOr (s .pool) (offered genesis clock (s .buffer) (s .size) (s .pool) order depot);
 }
 
 -- issuing is the call append, with the signatures that the host gives: what it answers, and what is kept then
@@ -83,7 +83,7 @@ pub record Run : Type 0 where
   -- what a controller meets in a slot, in that order, before it issues, and the orders that it is offered after that: "Faulty ones may send anything, to
   -- whom and when they like"
   pub events : (controller slot : ℕ) → List Event
-  pub offers : (controller slot : ℕ) → List Order
+  pub offers : (controller slot : ℕ) → List (Order × ℕ)
   -- the signatures that its host gives in a slot: the slot's, and the block's
   pub signature : (controller slot : ℕ) → List ℕ
   pub seal : (controller slot : ℕ) → List ℕ
@@ -106,7 +106,7 @@ module _ (r : Run) where
   afterIssuing i slot s = pick (eqb (turn (r .table) slot) i) (issues (r .genesis) slot i (r .signature i slot) (r .seal i slot) s) s
 
   abbrev pub afterOffers : (i slot : ℕ) → Node → Node
-  afterOffers i slot s = folded (λ node order. afterEvent (r .genesis) slot node (offer order)) s (r .offers i slot)
+  afterOffers i slot s = folded (λ node o. afterEvent (r .genesis) slot node (offer (o .0) (o .1))) s (r .offers i slot)
 
   -- what it keeps when a slot has passed
   unfoldable pub afterSlot : (i slot : ℕ) → Node

@@ -7,7 +7,7 @@ use crate::print;
 use crate::writes::signature;
 use issue::Issued;
 
-// draft GENESIS NOW HELD LENGTH CONTROLLER SLOT-SIGNATURE BUFFER COUNT DISPLAY EXPECTED NEW SLOT ..
+// draft GENESIS NOW HELD LENGTH CONTROLLER SLOT-SIGNATURE BUFFER COUNT DISPLAY EXPECTED NEW SLOT DEPOT ..
 pub fn draft(line: &[u8], bytes: &[u8], ends: &[usize; 8], space: &mut [u8]) {
     let buffer = fields::buffer(line, 7, space);
     print_issued(issue::draft(
@@ -23,7 +23,7 @@ pub fn draft(line: &[u8], bytes: &[u8], ends: &[usize; 8], space: &mut [u8]) {
     print::bytes(buffer);
 }
 
-// text GENESIS NOW HELD LENGTH CONTROLLER SLOT-SIGNATURE BUFFER COUNT DISPLAY EXPECTED NEW SLOT ..
+// text GENESIS NOW HELD LENGTH CONTROLLER SLOT-SIGNATURE BUFFER COUNT DISPLAY EXPECTED NEW SLOT DEPOT ..
 pub fn text(line: &[u8], bytes: &[u8], ends: &[usize; 8], space: &mut [u8]) {
     let buffer = fields::buffer(line, 7, space);
     print_issued(issue::block_text(
@@ -39,7 +39,7 @@ pub fn text(line: &[u8], bytes: &[u8], ends: &[usize; 8], space: &mut [u8]) {
     print::bytes(buffer);
 }
 
-// append GENESIS NOW BUFFER LENGTH CONTROLLER SLOT-SIGNATURE BLOCK-SIGNATURE COUNT DISPLAY EXPECTED NEW SLOT ..
+// append GENESIS NOW BUFFER LENGTH CONTROLLER SLOT-SIGNATURE BLOCK-SIGNATURE COUNT DISPLAY EXPECTED NEW SLOT DEPOT ..
 pub fn append(line: &[u8], genesis: &[u8], space: &mut [u8]) {
     let buffer = fields::buffer(line, 3, space);
     print_issued(issue::append(

@@ -10,15 +10,16 @@ use pool::Entry;
 use pool::Offered;
 use pool::Pool;
 
-// offer GENESIS NOW HELD LENGTH DISPLAY EXPECTED NEW COUNT DISPLAY EXPECTED NEW SLOT ..
+// offer GENESIS NOW HELD LENGTH DISPLAY EXPECTED NEW DEPOT COUNT DISPLAY EXPECTED NEW SLOT DEPOT ..
 pub fn offer(line: &[u8], bytes: &[u8], ends: &[usize; 8]) {
     print_offered(pool::offer(
         string(bytes, ends, 1),
         fields::slot(line, 2),
         string(bytes, ends, 3),
         fields::place(line, 4),
-        pool_of(fields::tail(line, 8)),
+        pool_of(fields::tail(line, 9)),
         order_of(fields::tail(line, 5)),
+        fields::number(line, 8),
     ));
 }
 
@@ -31,7 +32,7 @@ fn print_offered(offered: Offered) {
     print_pool(pool);
 }
 
-// A count, and four numbers for each of the listed entries, of which there may be more or fewer.
+// A count, and five numbers for each of the listed entries, of which there may be more or fewer.
 pub fn pool_of(fields: &[u8]) -> Pool {
     let none = Entry {
         order: Order {
@@ -40,11 +41,12 @@ pub fn pool_of(fields: &[u8]) -> Pool {
             new: 0,
         },
         slot: Slot(0),
+        depot: 0,
     };
     let mut list = [none; 64];
     let mut i = 0;
     while i < 64 {
-        list[i] = entry_of(fields::tail(fields, 4 * i + 1));
+        list[i] = entry_of(fields::tail(fields, 5 * i + 1));
         i += 1;
     }
     Pool {
@@ -58,6 +60,7 @@ fn entry_of(fields: &[u8]) -> Entry {
     Entry {
         order,
         slot: fields::slot(fields, 3),
+        depot: fields::number(fields, 4),
     }
 }
 
@@ -93,10 +96,13 @@ fn is_none(entry: Entry) -> bool {
     if order.new != 0 {
         return false;
     }
+    if entry.depot != 0 {
+        return false;
+    }
     entry.slot.0 == 0
 }
 
 fn print_entry(entry: Entry) {
     print_order(entry.order);
-    print::value(b" #", entry.slot.0 as u64);
+    print::numbers(b" # #", &[entry.slot.0 as u64, entry.depot as u64]);
 }

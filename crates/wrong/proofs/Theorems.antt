@@ -89,7 +89,7 @@ adopt =
     (ap (λ t. given (adopted (accepted-from (zeros 162) 0 first verdicts t) (zeros 162) first)) (opens 4 refl))
     (ap (λ t. given (adopted (accepted-from (zeros 162) 0 [] verdicts t) (zeros 162) [])) (opens 4 refl))
 
-pub offer : Rejected λ order. offered genesis 1 ([]) 0 noPool order
+pub offer : Rejected λ order. offered genesis 1 ([]) 0 noPool order 0
 unfolding genesisOf numberAt readGroups heldChain run taking
 offer = rejected _ (upgrade 7 8) (upgrade 7 7) refl refl
 
@@ -137,7 +137,7 @@ adopting-touches =
     touched _ (λ b. getD b 33 0) (zeros 162) 0 1 refl
     (ap (λ t. getD (adopting (accepted-from (zeros 162) 0 first verdicts t) (zeros 162) first) 33 0) (opens 4 refl)) refl
 
-pub pooling-touches : TouchesNothing (λ pool. poolOr pool (offered genesis 1 ([]) 0 pool (upgrade 7 8))) → ⊥
+pub pooling-touches : TouchesNothing (λ pool. poolOr pool (offered genesis 1 ([]) 0 pool (upgrade 7 8) 0)) → ⊥
 unfolding genesisOf numberAt readGroups heldChain run taking
 pooling-touches = touched _ (λ p. p .count) noPool 0 1 refl refl refl
 

@@ -52,7 +52,7 @@ impl Controller {
         Ok(self.held.chain())
     }
 
-    /// An order for the display is pooled, for this controller's next block.
+    /// An order for the display is pooled, for this controller's next block. It comes from depot 0.
     fn offer(
         &mut self,
         genesis: &[u8],
@@ -65,7 +65,7 @@ impl Controller {
             expected: from,
             new: to,
         };
-        self.held.offer(genesis, now, &mut self.pool, order)
+        self.held.offer(genesis, now, &mut self.pool, order, 0)
     }
 
     fn report(&self, genesis: &[u8], now: Slot) -> Result<Report, Refusal> {

@@ -73,16 +73,18 @@ impl<B: AsRef<[u8]>> Held<B> {
         told(answer.refusal, answer.place, report)
     }
 
-    /// Pools an order behind the entries that still count: 1, 2, 17, 18, 5, 14, 13.
+    /// Pools an order of a depot behind the entries that still count: 1, 2, 17, 18, 5, 14, 20, 13. The last can't occur: each of the four depots has
+    /// room for 16 of the 64 entries.
     pub fn offer(
         &self,
         genesis: &[u8],
         now: Slot,
         pool: &mut Pool,
         order: Order,
+        depot: u32,
     ) -> Result<(), Refusal> {
         let held = self.buffer.as_ref();
-        let answer = raw::ledger_pool_order(genesis, now, held, self.length, *pool, order);
+        let answer = raw::ledger_pool_order(genesis, now, held, self.length, *pool, order, depot);
         *pool = answer.pool;
         told(answer.refusal, answer.place, ())
     }

@@ -141,7 +141,7 @@ mod layout {
         Orders 200 { count 0 list 8 }
         Front 304 { link 0 orders 32 slot 232 slot_signature 236 }
         Block 368 { front 0 block_signature 304 }
-        Entry 32 { order 0 slot 24 }
+        Entry 32 { order 0 slot 24 depot 28 }
         Pool 2056 { count 0 entries 8 }
         Signature 64 { 0 0 }
         Genesis 536 { n 0 t 4 u 8 releases 16 keys_at 528 }
@@ -215,7 +215,7 @@ macro_rules! calls {
         fn ledger_check(genesis: &[u8], clock: Slot, chain: &[u8], verdicts: &[u8]) -> CheckAnswer;
         fn ledger_choose(genesis: &[u8], clock: Slot, held: &[u8], delivered: &[u8], verdicts: &[u8]) -> ChooseAnswer;
         fn ledger_adopt(genesis: &[u8], clock: Slot, held: &mut [u8], length: usize, delivered: &[u8], verdicts: &[u8]) -> AdoptAnswer;
-        fn ledger_pool_order(genesis: &[u8], clock: Slot, held: &[u8], length: usize, pool: Pool, order: Order) -> PoolAnswer;
+        fn ledger_pool_order(genesis: &[u8], clock: Slot, held: &[u8], length: usize, pool: Pool, order: Order, depot: u32) -> PoolAnswer;
         fn ledger_draft(genesis: &[u8], clock: Slot, held: &[u8], length: usize, pool: Pool, controller: u32, slot_signature: Signature,
                         out: &mut [u8]) -> IssueAnswer;
         fn ledger_block_text(genesis: &[u8], clock: Slot, held: &[u8], length: usize, pool: Pool, controller: u32, slot_signature: Signature,
@@ -359,14 +359,14 @@ mod tests {
         let (one, other) = (Signature([7; 64]), Signature([8; 64]));
         for [genesis, held, out] in emptied([&GENESIS, &chain, &[0; 192]]) {
             let (at, held_mut, out) = (held.len(), &mut held.to_vec(), &mut out.to_vec());
-            same!(ledger_pool_order(genesis, now, held, at, pool, ORDER));
+            same!(ledger_pool_order(genesis, now, held, at, pool, ORDER, 3));
             same!(ledger_draft(genesis, now, held, at, pool, 1, one, out));
             same!(ledger_block_text(genesis, now, held, at, pool, 1, one, out));
             same!(ledger_append(
                 genesis, now, held_mut, at, pool, 1, one, other
             ));
         }
-        let pooled = nulls::ledger_pool_order(&GENESIS, now, &[], 0, pool, ORDER);
+        let pooled = nulls::ledger_pool_order(&GENESIS, now, &[], 0, pool, ORDER, 3);
         assert_eq!(pooled.refusal, 0);
         let drafted = nulls::ledger_draft(&GENESIS, now, &[], 0, pool, 1, one, &mut [0; 192]);
         assert_eq!((drafted.refusal, drafted.length), (0, 98));

@@ -80,7 +80,7 @@ kinds! {
     2 BadClock "BAD_CLOCK" "the slot is not 1 to 256"
     3 Cut "CUT" "a block or a number is cut"
     4 BadNumber "BAD_NUMBER" "a number is badly written: not in its shortest form, or too large"
-    5 OutOfRange "OUT_OF_RANGE" "a count, a display, a release or a slot is out of its range"
+    5 OutOfRange "OUT_OF_RANGE" "a count, a display, a depot, a release or a slot is out of its range"
     6 BadStamp "BAD_STAMP" "a block's slot is not above the one before it; to be issued: the held chain already has a block of this slot"
     7 LateStamp "LATE_STAMP" "a delivered block's slot is not below the clock's"
     8 BadVerdict "BAD_VERDICT" "a block's signatures do not verify, or nobody said whether they do"
@@ -94,6 +94,7 @@ kinds! {
     16 TooLong "TOO_LONG" "a delivered chain has more than 64,256 bytes, or what is to be digested more than 65,536"
     17 BadHeld "BAD_HELD" "the held chain is bad: put its length to 0 and take the next whole chain"
     18 BadPool "BAD_POOL" "the order pool is bad: empty it"
+    20 DepotFull "DEPOT_FULL" "the depot has 16 counting entries in the order pool"
 }
 
 impl Display for Kind {
@@ -111,11 +112,12 @@ mod tests {
     #[test]
     fn numbers_there_and_back() {
         let numbers: std::vec::Vec<u32> = Kind::ALL.iter().map(|kind| kind.number()).collect();
-        assert_eq!(numbers, (1..=18).collect::<std::vec::Vec<u32>>());
+        let known: std::vec::Vec<u32> = (1..=18).chain([20]).collect();
+        assert_eq!(numbers, known);
         for kind in Kind::ALL {
             assert_eq!(Kind::of_number(kind.number()), *kind);
         }
-        for number in [0, 19, u32::MAX] {
+        for number in [0, 19, 21, u32::MAX] {
             assert_eq!(Kind::of_number(number), Kind::Unknown(number));
             assert_eq!(Kind::Unknown(number).number(), number);
         }
@@ -125,7 +127,7 @@ mod tests {
     fn no_two_have_one_name_or_the_same_words() {
         for text in [Kind::name as fn(Kind) -> &'static str, Kind::words] {
             let texts: BTreeSet<&str> = Kind::ALL.iter().map(|kind| text(*kind)).collect();
-            assert_eq!(texts.len(), 18);
+            assert_eq!(texts.len(), Kind::ALL.len());
         }
     }
 

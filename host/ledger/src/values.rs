@@ -58,12 +58,13 @@ pub struct Block {
     pub block_signature: [u8; SIGNATURE_BYTES],
 }
 
-/// An order, and the slot in which it was pooled.
+/// An order, the slot in which it was pooled, and the depot that it came from, 0 to 3.
 #[repr(C)]
 #[derive(Debug, Clone, Copy, Default, PartialEq, Eq)]
 pub struct Entry {
     pub order: Order,
     pub slot: Slot,
+    pub depot: u32,
 }
 
 /// The first `count` entries are meant.
@@ -85,6 +86,7 @@ impl Pool {
                 new: 0,
             },
             slot: Slot(0),
+            depot: 0,
         }; POOL_ROOM],
     };
 

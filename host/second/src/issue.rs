@@ -92,7 +92,7 @@ mod tests {
     use super::*;
     use crate::order::{BlockCount, Order};
     use crate::pool::Entry;
-    use crate::samples::{self, entry, order, Case, FILLER};
+    use crate::samples::{self, entry, in_turn, order, Case, FILLER};
     use crate::sha256;
 
     fn call_draft(case: &mut Case) -> Result<usize, Refusal> {
@@ -185,7 +185,13 @@ mod tests {
     fn no_entries_no_orders() {
         let invalid = entry(order(2, 41, 42), 20);
         let old = entry(order(2, 40, 41), 15);
-        for entries in [&[][..], &[invalid], &[old], &[old, invalid, old]] {
+        for entries in [
+            &[][..],
+            &[invalid],
+            &[old],
+            &[old, invalid, old],
+            &[old; 64],
+        ] {
             let mut case = pooled(entries);
             let start = case.held_length;
             assert_eq!(call_append(&mut case.clone()), Ok(start + 162));
@@ -210,9 +216,10 @@ mod tests {
 
     #[test]
     fn until_8_are_taken() {
-        let mut entries: Vec<Entry> = (0..64)
+        let each: Vec<Entry> = (0..64)
             .map(|display| entry(order(display, 0, 1), 20))
             .collect();
+        let mut entries = in_turn(&each);
         let expected: Vec<Order> = [0, 1, 3, 4, 5, 6, 7, 8]
             .map(|display| order(display, 0, 1))
             .into();
@@ -330,11 +337,9 @@ mod tests {
 
     #[test]
     fn the_earliest_of_several_faults() {
-        let faults = samples::issuing_faults();
-        let [expected, new] = samples::of_releases(&faults);
-        for call in CALLS {
-            for faults in [&faults, &expected, &new] {
-                samples::refuses_in_order(faults, |case| call(case).err());
+        for faults in samples::kinds(samples::issuing_faults()) {
+            for call in CALLS {
+                samples::refuses_in_order(&faults, |case| call(case).err());
             }
         }
     }

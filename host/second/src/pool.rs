@@ -1,4 +1,6 @@
-//! The order pool (01, "Pool an order").
+//! The order pool (01, "Pool an order"; its depots: 02, d).
+use std::ops::RangeInclusive;
+
 use super::chain;
 use super::genesis::Opening;
 use super::order::{apply, valid, Order, Releases, Slot};
@@ -7,11 +9,18 @@ use super::{refusal, Refusal};
 /// How many entries a pool has room for.
 pub const ROOM: usize = 64;
 
-/// "Each an order and its entry slot."
+/// The depots there are.
+pub const DEPOTS: RangeInclusive<u32> = 0..=3;
+
+/// "A depot may have at most 16 counting entries."
+pub const DEPOT_ROOM: usize = 16;
+
+/// "Each an order and its entry slot", and 02: "Each entry carries its depot, 0 to 3".
 #[derive(Debug, Clone, Copy, Default, PartialEq, Eq)]
 pub struct Entry {
     pub order: Order,
     pub slot: Slot,
+    pub depot: u32,
 }
 
 /// "The pool is up to 64 entries." Any pool may be handed in, a bad one too.
@@ -33,23 +42,37 @@ impl Pool {
     }
 
     /// The entries that count, in order, or 18: "count above 64, or within the count an entry with a display above 63, slot 0 or slot
-    /// above now", and 02: "a release above the largest is .. 18 in the pool".
+    /// above now", and 02: "a release above the largest is .. 18 in the pool", "a depot above 3 is 18 in the pool", "a pool with more than 16
+    /// counting entries of one depot is 18".
     pub fn counting(&self, opening: &Opening) -> Result<Vec<Entry>, Refusal> {
         let entries = self.entries.get(..self.count as usize).ok_or(refusal(18))?;
         if !entries.iter().all(|entry| entry.good(opening.now)) {
             return Err(refusal(18));
         }
-        Ok(entries
+        let counting: Vec<Entry> = entries
             .iter()
             .filter(|entry| entry.counts(opening))
             .copied()
-            .collect())
+            .collect();
+        let crowded = |entry: &Entry| count_of(entry.depot, &counting) > DEPOT_ROOM;
+        if counting.iter().any(crowded) {
+            return Err(refusal(18));
+        }
+        Ok(counting)
     }
+}
+
+/// How many of these entries are a depot's.
+fn count_of(depot: u32, entries: &[Entry]) -> usize {
+    entries.iter().filter(|entry| entry.depot == depot).count()
 }
 
 impl Entry {
     fn good(&self, now: Slot) -> bool {
-        self.order.in_range() && self.slot >= Slot(1) && self.slot <= now
+        self.order.in_range()
+            && self.slot >= Slot(1)
+            && self.slot <= now
+            && DEPOTS.contains(&self.depot)
     }
 
     /// "An entry counts while now minus its slot is less than u." For an entry whose slot is not above now.
@@ -69,8 +92,10 @@ pub fn taken(entries: &[Entry], mut releases: Releases, limit: usize) -> (Vec<Or
     (orders, releases)
 }
 
-/// Pool an order: 1, 2, 17, 18, 5, 14, 13. "The new order must be valid after the held chain and then the counting entries in order." "On
-/// success the entries that no longer count are gone, the others keep their order, and the new one is last."
+/// Pool an order of a depot: 1, 2, 17, 18, 5, 14, 20. "The new order must be valid after the held chain and then the counting entries in order."
+/// "On success the entries that no longer count are gone, the others keep their order, and the new one is last."
+///
+/// 13, which stands after 20, can't occur: past 18 no depot has more than 16 of the 64 that count, and past 20 the asker's has fewer.
 pub fn offer(
     genesis: &[u8],
     now: Slot,
@@ -78,21 +103,26 @@ pub fn offer(
     held_length: usize,
     pool: &mut Pool,
     order: Order,
+    depot: u32,
 ) -> Result<(), Refusal> {
     let opening = Opening::new(genesis, now)?;
     let held = chain::summary(&opening, held, held_length)?.whole;
     let mut entries = pool.counting(&opening)?;
-    if !order.in_range() {
+    if !order.in_range() || !DEPOTS.contains(&depot) {
         return Err(refusal(5));
     }
     let (_, releases) = taken(&entries, held.releases, ROOM);
     if !valid(&order, &releases) {
         return Err(refusal(14));
     }
-    if entries.len() == ROOM {
-        return Err(refusal(13));
+    if count_of(depot, &entries) == DEPOT_ROOM {
+        return Err(refusal(20));
     }
-    entries.push(Entry { order, slot: now });
+    entries.push(Entry {
+        order,
+        slot: now,
+        depot,
+    });
     *pool = Pool::of(&entries);
     Ok(())
 }
@@ -101,30 +131,45 @@ pub fn offer(
 mod tests {
     use super::*;
     use crate::number::LARGEST;
-    use crate::samples::{self, entry, order, Case};
+    use crate::samples::{self, crowd, entry, in_turn, order, Case};
 
     fn call(case: &mut Case) -> Option<Refusal> {
         case.offer(offer).err()
     }
 
-    /// Offers an order at slot 20 to one who holds no blocks; u is 5, display 2 at release 40.
+    /// Depot 0 offers an order at slot 20 to one who holds no blocks; u is 5, display 2 at release 40.
     fn offered(pool: &Pool, order: Order) -> Result<Pool, Refusal> {
+        offered_by(0, pool, order)
+    }
+
+    fn offered_by(depot: u32, pool: &Pool, order: Order) -> Result<Pool, Refusal> {
         let mut after = pool.clone();
-        offer(&samples::table(), Slot(20), &[], 0, &mut after, order)?;
+        offer(
+            &samples::table(),
+            Slot(20),
+            &[],
+            0,
+            &mut after,
+            order,
+            depot,
+        )?;
         Ok(after)
     }
 
     #[test]
-    fn the_new_entry_is_last_at_now() {
+    fn the_new_entry_is_last_at_now_and_carries_its_depot() {
         let mut pool = Pool::of(&[]);
         let mut entries = Vec::new();
-        for release in 40..104 {
+        for (release, depot) in (40..104).zip(DEPOTS.cycle()) {
             let next = order(2, release, release + 1);
-            pool = offered(&pool, next).unwrap();
-            entries.push(entry(next, 20));
+            pool = offered_by(depot, &pool, next).unwrap();
+            entries.push(entry(next, 20).of_depot(depot));
             assert_eq!(pool, Pool::of(&entries));
         }
-        assert_eq!(offered(&pool, order(2, 104, 105)), Err(refusal(13)));
+        for depot in DEPOTS {
+            let more = offered_by(depot, &pool, order(2, 104, 105));
+            assert_eq!(more, Err(refusal(20)));
+        }
     }
 
     #[test]
@@ -174,9 +219,10 @@ mod tests {
 
     #[test]
     fn places_past_the_count_hold_zeros() {
+        let spare = entry(order(u32::MAX, u64::MAX, LARGEST + 1), 0).of_depot(4);
         let mut pool = Pool {
             count: 2,
-            entries: [entry(order(u32::MAX, u64::MAX, LARGEST + 1), 0); ROOM],
+            entries: [spare; ROOM],
         };
         pool.entries[0] = entry(order(2, 40, 41), 3);
         pool.entries[1] = entry(order(2, 40, 41), 17);
@@ -187,23 +233,75 @@ mod tests {
         assert_eq!(offered(&pool, new), Ok(after));
     }
 
+    /// "20, the depot has 16 counting entries, after 14": whoever else has entries, and in whatever order they stand.
     #[test]
-    fn room() {
-        let mut pool = Pool::of(&[entry(order(9, 9, 9), 16); ROOM]);
-        let new = order(0, 0, 1);
-        assert_eq!(offered(&pool, new), Err(refusal(13)));
-        assert_eq!(offered(&pool, order(0, 1, 2)), Err(refusal(14)));
-        assert_eq!(offered(&pool, order(64, 0, 1)), Err(refusal(5)));
-        for place in [0, 31, 63] {
-            let mut old = pool.clone();
-            old.entries[place].slot = Slot(15);
-            let mut after = pool.entries;
-            after[63] = entry(new, 20);
-            assert_eq!(offered(&old, new).unwrap().entries, after);
+    fn room_of_a_depot() {
+        for (asker, other) in DEPOTS.flat_map(|asker| DEPOTS.map(move |other| (asker, other))) {
+            for others in (0..=16).filter(|others| asker != other || *others == 0) {
+                let mut pool = Pool::of(&[]);
+                crowd(&mut pool, other, others);
+                crowd(&mut pool, asker, 15);
+                let new = order(0, 0, 1);
+                let after = offered_by(asker, &pool, new).unwrap();
+                assert_eq!(after.count, others + 16);
+                let next = order(0, 1, 2);
+                assert_eq!(offered_by(asker, &after, next), Err(refusal(20)));
+                assert_eq!(offered_by(asker, &after, new), Err(refusal(14)));
+                let display = order(64, 0, 1);
+                assert_eq!(offered_by(asker, &after, display), Err(refusal(5)));
+            }
         }
-        pool.entries.fill(entry(order(9, 9, 9), 15));
+    }
+
+    /// 16 of each depot: 64 entries, and every offer meets 20 before it could meet 13.
+    #[test]
+    fn the_pool_is_full_only_where_each_depot_is() {
+        let new = order(0, 0, 1);
+        let full = in_turn(&[entry(order(9, 9, 9), 16); ROOM]);
+        for (place, depot) in (0..ROOM).zip(DEPOTS.cycle()) {
+            let pool = Pool::of(&full);
+            assert_eq!(offered_by(depot, &pool, new), Err(refusal(20)));
+            let mut rest = full.clone();
+            rest.remove(place);
+            let after = [&rest[..], &[entry(new, 20).of_depot(depot)]].concat();
+            let pool = Pool::of(&rest);
+            assert_eq!(offered_by(depot, &pool, new), Ok(Pool::of(&after)));
+            let other = (depot + 1) % 4;
+            assert_eq!(offered_by(other, &pool, new), Err(refusal(20)));
+        }
+    }
+
+    /// "The dropped entries' room is thereby free", also the depot's: only what counts is counted.
+    #[test]
+    fn entries_that_no_longer_count_take_no_room() {
+        let new = order(0, 0, 1);
+        let full = [entry(order(9, 9, 9), 16); 16];
+        for place in [0, 7, 15] {
+            let mut old = full;
+            old[place].slot = Slot(15);
+            let after = [&full[1..], &[entry(new, 20)]].concat();
+            assert_eq!(offered(&Pool::of(&old), new), Ok(Pool::of(&after)));
+        }
+        let old = [entry(order(9, 9, 9), 15); ROOM];
         let after = Pool::of(&[entry(new, 20)]);
-        assert_eq!(offered(&pool, new), Ok(after));
+        assert_eq!(offered(&Pool::of(&old), new), Ok(after));
+        let mut mixed = Pool::of(&old[..48]);
+        crowd(&mut mixed, 0, 16);
+        assert_eq!(offered(&mixed, new), Err(refusal(20)));
+        assert_eq!(offered_by(1, &mixed, new).map(|pool| pool.count), Ok(17));
+    }
+
+    #[test]
+    fn offered_depots() {
+        for depot in [4, 5, 16, 256, u32::MAX] {
+            let mut case = Case::good();
+            case.depot = depot;
+            samples::answers(Some(refusal(5)), "depot", case.clone(), call);
+            case.order.display = 64;
+            samples::answers(Some(refusal(5)), "depot and display", case.clone(), call);
+            case.pool.count = 65;
+            samples::answers(Some(refusal(18)), "bad pool", case, call);
+        }
     }
 
     /// "Starting orders from the pool's state when the chain below has changed since."
@@ -214,7 +312,7 @@ mod tests {
         let mut pool = Pool::of(&[entry(order(2, 40, 41), 19), entry(order(2, 41, 42), 19)]);
         let mut offer = |held_length, new| {
             let now = Slot(20);
-            offer(&genesis, now, &held, held_length, &mut pool, new).map(|()| pool.count)
+            offer(&genesis, now, &held, held_length, &mut pool, new, 2).map(|()| pool.count)
         };
         assert_eq!(offer(held.len(), order(2, 42, 43)), Err(refusal(14)));
         assert_eq!(offer(0, order(2, 45, 46)), Err(refusal(14)));
@@ -235,6 +333,7 @@ mod tests {
                 0,
                 &mut pool,
                 order(1, 0, 1),
+                0,
             );
             answer.map(|()| pool.count)
         };
@@ -249,7 +348,7 @@ mod tests {
         for (u, now, counts) in [(1, 7, 1), (1, 8, 0), (64, 70, 1), (64, 71, 0)] {
             let genesis = samples::genesis(6, 1, u).bytes();
             let mut pool = Pool::of(&[entry(order(0, 0, 1), 7)]);
-            offer(&genesis, Slot(now), &[], 0, &mut pool, order(1, 0, 1)).unwrap();
+            offer(&genesis, Slot(now), &[], 0, &mut pool, order(1, 0, 1), 0).unwrap();
             assert_eq!(pool.count, counts + 1);
         }
     }
@@ -347,9 +446,7 @@ mod tests {
 
     #[test]
     fn the_earliest_of_several_faults() {
-        let faults = samples::pooling_faults();
-        samples::refuses_in_order(&faults, call);
-        for faults in samples::of_releases(&faults) {
+        for faults in samples::kinds(samples::pooling_faults()) {
             samples::refuses_in_order(&faults, call);
         }
     }

@@ -27,7 +27,8 @@ mod tests {
             "11 NOT_LONGER: the delivered chain does not have more blocks than the held one\n";
         assert_eq!(one("11"), Ok(words.into()));
         assert!(all().contains(words));
-        for number in ["0", "19", "-1", "x", "4294967296"] {
+        assert!(one("20").is_ok_and(|line| line.starts_with("20 DEPOT_FULL: ")));
+        for number in ["0", "19", "21", "-1", "x", "4294967296"] {
             let wrong = format!("{number} is not the number of a refusal");
             assert_eq!(one(number), Err(wrong));
         }

@@ -338,11 +338,20 @@ pub fn offer(
     held_length: usize,
     pool: &mut Pool,
     order: Order,
+    depot: u32,
 ) -> Answer<()> {
     let before = pool.clone();
     let mut other_pool = pool.clone();
-    let answer = proved::offer(genesis, now, held, held_length, pool, order);
-    let other = pool::offer(genesis, now, held, held_length, &mut other_pool, order);
+    let answer = proved::offer(genesis, now, held, held_length, pool, order, depot);
+    let other = pool::offer(
+        genesis,
+        now,
+        held,
+        held_length,
+        &mut other_pool,
+        order,
+        depot,
+    );
     let given: Given = &[
         ("genesis", &Hex(genesis)),
         ("now", &now),
@@ -350,6 +359,7 @@ pub fn offer(
         ("held length", &held_length),
         ("pool", &before),
         ("order", &order),
+        ("depot", &depot),
     ];
     same("offer", given, (answer, &*pool), (other, &other_pool));
     answer
@@ -420,7 +430,7 @@ pub const BOTH: Calls = Calls {
 /// A call on a case, made with both.
 pub struct Call {
     pub name: &'static str,
-    /// The refusals that 01 has for it.
+    /// The refusals that 01 and 02 have for it, but for 13, which can't occur any more (02, d).
     pub refusals: &'static [u32],
     pub make: fn(&mut Case) -> Option<Refusal>,
 }
@@ -431,7 +441,7 @@ pub const CALLS: [Call; 8] = [
     Call { name: "check", refusals: &[1, 2, 16, 3, 4, 5, 6, 7, 8, 9, 10], make: |case| case.check(check).err() },
     Call { name: "choose", refusals: &[1, 2, 17, 16, 3, 4, 5, 6, 7, 8, 9, 10, 11], make: |case| case.choose(choose).1 },
     Call { name: "adopt", refusals: &[1, 2, 17, 16, 3, 4, 5, 6, 7, 8, 9, 10, 11, 15], make: |case| case.adopt(adopt).err() },
-    Call { name: "offer", refusals: &[1, 2, 17, 18, 5, 14, 13], make: |case| case.offer(offer).err() },
+    Call { name: "offer", refusals: &[1, 2, 17, 18, 5, 14, 20], make: |case| case.offer(offer).err() },
     Call { name: "draft", refusals: &[1, 2, 17, 18, 12, 6, 15], make: |case| case.write(draft).err() },
     Call { name: "block text", refusals: &[1, 2, 17, 18, 12, 6, 15], make: |case| case.write(block_text).err() },
     Call { name: "append", refusals: &[1, 2, 17, 18, 12, 6, 15], make: |case| case.append(append).err() },

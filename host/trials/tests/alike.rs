@@ -1,5 +1,5 @@
 //! Both implementations on every call, where one thing or two in a good case are wrong, and by chance: the same answers, the same bytes.
-use std::collections::BTreeSet;
+use std::collections::{BTreeMap, BTreeSet};
 
 use second::chance::Chance;
 use second::number::LARGEST;
@@ -115,6 +115,9 @@ fn every_clock_length_and_count() {
         let valid = case.pool.entries[1];
         case.pool.entries[2..].fill(valid);
         alike(&case);
+        let depots = samples::in_turn(&case.pool.entries);
+        case.pool.entries.copy_from_slice(&depots);
+        alike(&case);
     }
 }
 
@@ -149,10 +152,11 @@ fn numbers(case: &mut Case) -> Vec<&mut u32> {
         &mut case.now.0,
         &mut case.controller,
         &mut order.display,
+        &mut case.depot,
         &mut pool.count,
     ];
-    for Entry { order, slot } in &mut pool.entries[..2] {
-        numbers.extend([&mut order.display, &mut slot.0]);
+    for Entry { order, slot, depot } in &mut pool.entries[..2] {
+        numbers.extend([&mut order.display, &mut slot.0, depot]);
     }
     numbers
 }
@@ -276,6 +280,74 @@ fn releases_above_the_largest() {
     }
 }
 
+/// The depots of a case: of the offer, of the pool's entry, and of the one past its count.
+fn depots(case: &mut Case) -> [&mut u32; 3] {
+    let [first, past, ..] = &mut case.pool.entries;
+    [&mut case.depot, &mut first.depot, &mut past.depot]
+}
+
+/// What a depot above 3 meets, by its place in `depots`: 5 if it offers, 18 in the pool, and past its count nothing.
+#[test]
+fn depots_above_3() {
+    let met = [Some(5), Some(18), None];
+    let with_pool = CALLS.iter().filter(|call| call.refusals.contains(&18));
+    for call in with_pool {
+        for (place, met) in met.into_iter().enumerate() {
+            let met = met.filter(|number| call.refusals.contains(number));
+            for depot in [0, 1, 2, 3, 4, 5, 7, 8, 255, 256, 1 << 31, u32::MAX] {
+                let mut case = large();
+                *depots(&mut case)[place] = depot;
+                let refused = (call.make)(&mut case).map(|refused| refused.number);
+                assert_eq!(refused, met.filter(|_| depot > 3), "{}: {depot}", call.name);
+            }
+        }
+    }
+}
+
+/// A pool in which the asker's depot and another have so many entries, half a slot too old or none of them.
+fn crowded(asker: u32, own: usize, others: usize, old: bool) -> Pool {
+    let of = |depot: u32, slot| entry(order(9, 9, 9), slot).of_depot(depot);
+    let mut entries = vec![of(asker, 16); own];
+    for place in 0..others {
+        entries.insert(place * own / others.max(1), of((asker + 1) % 4, 16));
+    }
+    let aged = if old { 15 } else { 16 };
+    entries
+        .iter_mut()
+        .step_by(2)
+        .for_each(|entry| entry.slot = Slot(aged));
+    Pool::of(&entries)
+}
+
+/// Up to 20 entries of the asker's depot and of another, all counting and half of them: 18 exactly if more than 16 of one count, and then 20 exactly
+/// if 16 of the asker's do, whatever the other has.
+#[test]
+fn crowded_depots() {
+    for (own, others) in (0..=20).flat_map(|own| (0..=20).map(move |others| (own, others))) {
+        for (asker, old) in [(0, false), (3, false), (2, true)] {
+            let pool = crowded(asker, own, others, old);
+            let count = |depot| {
+                let counts = |entry: &&Entry| entry.depot == depot && entry.slot == Slot(16);
+                pool.entries.iter().filter(counts).count()
+            };
+            let [mine, theirs] = [asker, (asker + 1) % 4].map(count);
+            let expected = match mine.max(theirs) {
+                17.. => Some(18),
+                _ => (mine == 16).then_some(20),
+            };
+            let mut case = Case {
+                order: order(2, 40, 41),
+                depot: asker,
+                pool,
+                ..good()
+            };
+            alike(&case);
+            let refused = case.offer(both::offer).err().map(|refused| refused.number);
+            assert_eq!(refused, expected, "{mine} and {theirs} count");
+        }
+    }
+}
+
 /// Each call meets each of its refusals, and no other.
 #[test]
 fn every_refusal_by_chance() {
@@ -308,13 +380,14 @@ enum Shown {
 }
 
 fn shown(mut case: Case) -> Option<Shown> {
-    let (order, now, pool) = (case.order, case.now, case.pool.clone());
+    let (order, depot, now, pool) = (case.order, case.depot, case.now, case.pool.clone());
     let met = case.offer(both::offer).map_err(|refused| refused.number);
     let (within, past) = pool.entries.split_at_checked(pool.count as usize)?;
     let placed = |entry: &Entry| entry.order.display < 64 && (Slot(1)..=now).contains(&entry.slot);
+    let large = |entry: &Entry| placed(entry) && !entry.order.in_range();
     match met {
-        Err(5) if order.display < 64 => Some(Shown::Offered),
-        Err(18) if within.iter().all(placed) => Some(Shown::Pooled),
+        Err(5) if order.display < 64 && depot < 4 => Some(Shown::Offered),
+        Err(18) if within.iter().all(placed) && within.iter().any(large) => Some(Shown::Pooled),
         Ok(()) if past.iter().any(|entry| !entry.order.in_range()) => Some(Shown::PastTheCount),
         Ok(()) if order.new > u32::MAX.into() => Some(Shown::Taken),
         _ => None,
@@ -328,4 +401,52 @@ fn large_releases_by_chance() {
         .filter_map(|_| shown(chance.issuing()))
         .collect();
     assert!(!all_are_made() || met.len() == 4, "{met:?}");
+}
+
+/// What a case by chance shows of depots.
+#[derive(Debug, PartialEq, Eq, PartialOrd, Ord)]
+enum Crowd {
+    /// Pooled, and the depot has 16 entries then, or more that do not all count.
+    Last,
+    /// 20.
+    Full,
+    /// 18, and each entry by itself is good.
+    Bad,
+    /// 5, and the order by itself is good.
+    Unknown,
+}
+
+fn crowd(mut case: Case) -> Option<Crowd> {
+    let good = |entry: &Entry| {
+        entry.order.in_range() && entry.depot < 4 && (Slot(1)..=case.now).contains(&entry.slot)
+    };
+    let pool = case.pool.clone();
+    let all_good = pool.entries.get(..pool.count as usize)?.iter().all(good);
+    let own = |pool: &Pool, depot| {
+        pool.entries
+            .iter()
+            .filter(|entry| entry.depot == depot)
+            .count()
+    };
+    let (order, depot) = (case.order, case.depot);
+    match case.offer(both::offer).map_err(|refused| refused.number) {
+        Ok(()) if depot > 0 && own(&case.pool, depot) == 16 => Some(Crowd::Last),
+        Err(20) => Some(Crowd::Full),
+        Err(18) if all_good => Some(Crowd::Bad),
+        Err(5) if order.in_range() => Some(Crowd::Unknown),
+        _ => None,
+    }
+}
+
+#[test]
+fn crowded_depots_by_chance() {
+    let mut chance = Chance::of_seed(11);
+    let mut met = BTreeMap::new();
+    for _ in 0..rounds(12_000) {
+        if let Some(crowd) = crowd(chance.issuing()) {
+            *met.entry(crowd).or_insert(0) += 1;
+        }
+    }
+    let often = met.len() == 4 && met.values().all(|count| *count > 20);
+    assert!(!all_are_made() || often, "{met:?}");
 }

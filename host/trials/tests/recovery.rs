@@ -83,7 +83,7 @@ fn after_an_outage() -> Six {
     let _ = six.deliver(3, Slot(3));
     let Six { station, all, .. } = &mut six;
     all[2]
-        .offer(station, &BOTH, Slot(3), order(7, 0, 9))
+        .offer(station, &BOTH, Slot(3), order(7, 0, 9), 0)
         .unwrap();
     six.slot(Slot(3), &ALL);
     six.issued = None;
@@ -176,11 +176,12 @@ fn a_bad_pool() {
     let one = &mut all[5];
     one.pool = Pool::of(&[entry(order(0, 0, 1), 7)]);
     for _ in 0..2 {
-        let offered = one.offer(station, &BOTH, Slot(6), order(1, 0, 1));
+        let offered = one.offer(station, &BOTH, Slot(6), order(1, 0, 1), 0);
         assert_eq!(offered, Err(refusal(18)));
         assert_eq!(one.issue(station, &BOTH, Slot(6)), Err(refusal(18)));
     }
     one.pool = Pool::of(&[]);
-    one.offer(station, &BOTH, Slot(6), order(1, 0, 1)).unwrap();
+    one.offer(station, &BOTH, Slot(6), order(1, 0, 1), 0)
+        .unwrap();
     assert_eq!(one.issue(station, &BOTH, Slot(6)), Ok(()));
 }

@@ -9,6 +9,7 @@ use borrow.Author.Tests.{le-ltb, lt-ltb, le-leb, lt-leb, ltb-true, ltb-false, no
 use borrow.Author.Needs.{needs}
 use Rattle.laws.proofs.Cases.{lt-cases}
 use Rattle.order.specs.Order.{orderInRange}
+use Rattle.pool.specs.Pool.{depots}
 use Rattle.pool.proofs.entry_fits.Statement.{statement}
 use Rattle.pool.proofs.entry_fits.Tie as tie
 
@@ -26,23 +27,33 @@ returns c = simp (sym (c .before .in-range .ensures) ∙ not-true _ (c .if1 .tak
 fine : (c : tie.Else1) → orderInRange (c .before .before .args .entry .order) ≡ true
 fine c = sym (c .before .in-range .ensures) ∙ not-false _ (c .if1 .left)
 
+returns-2 : tie.Need-returns-2
+returns-2 c = simp (fine (c .before .before), le-ltb _ _ (c .if2 .taken))
+
+known : (c : tie.Else2) → ltb (c .before .before .before .before .args .entry .depot) depots ≡ true
+known c = lt-ltb _ _ (c .if2 .left)
+
 earlier-requires : tie.Need-earlier-requires
 earlier-requires c κs = search needs
 
 earlier-requires-2 : tie.Need-earlier-requires-2
 earlier-requires-2 c κs = search needs
 
-returns-2 : tie.Need-returns-2
-returns-2 c =
-    let a = c .before .before .before .before .before .args in
-    let above-0 = le-leb 1 (a .entry .slot .0) (ltb-true _ _ (sym (c .before .before .earlier .ensures) ∙ c .before .if2 .taken)) in
-    ap not (c .earlier2 .ensures) ∙ not-above (a .clock .0) (a .entry .slot .0) ∙ simp (fine (c .before .before .before), above-0)
-
 returns-3 : tie.Need-returns-3
 returns-3 c =
-    let a = c .before .before .before .before .args in
-    let is-0 : a .entry .slot .0 ≤ 0 = ltb-false _ _ (sym (c .before .earlier .ensures) ∙ c .if2 .left) in
-    c .if2 .left ∙ simp (fine (c .before .before), lt-leb 1 (a .entry .slot .0) (omega arith))
+    let test = c .before .before .before in
+    let a = test .before .before .before .before .args in
+    let above-0 = le-leb 1 (a .entry .slot .0) (ltb-true _ _ (sym (c .before .before .earlier .ensures) ∙ c .before .if3 .taken)) in
+    ap not (c .earlier2 .ensures) ∙ not-above (a .clock .0) (a .entry .slot .0) ∙ simp (fine (test .before .before), known test, above-0)
+
+returns-4 : tie.Need-returns-4
+returns-4 c =
+    let test = c .before .before in
+    let a = test .before .before .before .before .args in
+    let is-0 : a .entry .slot .0 ≤ 0 = ltb-false _ _ (sym (c .before .earlier .ensures) ∙ c .if3 .left) in
+    c .if3 .left ∙ simp (fine (test .before .before), known test, lt-leb 1 (a .entry .slot .0) (omega arith))
 
 pub entry-fits-spec : {M : Type 1} → statement M
-entry-fits-spec = tie.close (tie.spec in-range-requires returns earlier-requires earlier-requires-2 returns-2 returns-3)
+entry-fits-spec =
+    tie.close
+    (tie.spec in-range-requires returns returns-2 earlier-requires earlier-requires-2 returns-3 returns-4)

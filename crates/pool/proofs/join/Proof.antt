@@ -1,36 +1,39 @@
 -- `pool::join` meets its contract.
 -- Assumes nothing.
-use Prim.Native.Nat.{ℕ, _+_, _<_, _≤_}
+use Prim.Native.Nat.{ℕ, _+_, _<_}
 use mathlib.Core.Path.{refl, _≡_, sym, ap, _∙_}
 use mathlib.Core.Bool.{true}
 use mathlib.Core.List.{List}
 use native.Mathlib.Omega.{arith}
-use lib.ListN.{length, length-map, set}
+use lib.ListN.{length, set}
 use borrow.Author.Tests.{not-true, not-false}
 use borrow.Author.Needs.{needs}
 use Rattle.laws.specs.Told.{gives}
 use Rattle.order.specs.Order.{orderInRange, valid}
-use Rattle.pool.specs.Pool.{room, counting, ordersOf, taking, entriesIn}
+use Rattle.pool.specs.Pool.{room, depots, depotRoom, counting, ordersOf, shareOf, taking, entriesIn}
 use Rattle.pool.specs.Answers.{poolOr}
-use Rattle.pool.proofs.Joining.{entries-of, pool-add, out-of-range, not-valid, full, joins}
+use Rattle.pool.proofs.Joining.{entries-of, pool-add, out-of-range, no-depot, not-valid, depot-full, joins}
+use Rattle.pool.proofs.Shares.{room-left}
+use Rattle.pool.proofs.Takings.{counting-known, counting-shares}
 use Rattle.pool.specs.declared.Entry.{Entry}
 use Rattle.pool.specs.declared.Pool.{Pool}
 use Rattle.pool.specs.declared.Taken.{Taken}
 use Rattle.pool.proofs.join.Statement.{statement}
 use Rattle.pool.proofs.join.Tie as tie
 
-whole : (s : tie.Start) → length (s .args .pool .entries) ≡ 64
-whole s = sym (length-map (s .args .pool .entries) _) ∙ s .good .1 .1 .0 .1 .1 .1 .0 .1 .0 .1
+-- the entries that count
+abbrev kept : (s : tie.Start) → List Entry
+kept s = counting (s .args .opened) (s .args .held) (s .args .pool)
 
 releases-are : (t : tie.After-take)
-    → let a = t .before .before .before .before .before .args in
-    t .take .result .releases ≡ taking room (a .held .whole .releases) (ordersOf (counting (a .opened) (a .held) (a .pool))) .releases
+    → let s = t .before .before .before .before .before .before in
+    t .take .result .releases ≡ taking room (s .args .held .whole .releases) (ordersOf (kept s)) .releases
 releases-are t =
-    let s = t .before .before .before .before .before in
-    let a = s .args in
+    let s = t .before .before .before .before .before .before in
+    let before = s .args .held .whole .releases in
     ap (λ (r : Taken). r .releases) (t .take .ensures)
-    ∙ ap (λ (p : Pool). taking room (a .held .whole .releases) (ordersOf (entriesIn p)) .releases) (s .pre)
-    ∙ ap (λ (l : List Entry). taking room (a .held .whole .releases) (ordersOf l) .releases) (entries-of (counting (a .opened) (a .held) (a .pool)))
+    ∙ ap (λ (p : Pool). taking room before (ordersOf (entriesIn p)) .releases) (s .pre .0)
+    ∙ ap (λ (l : List Entry). taking room before (ordersOf l) .releases) (entries-of (kept s))
 
 in-range-requires : tie.Need-in-range-requires
 in-range-requires c κs = search needs
@@ -43,8 +46,20 @@ refused-requires c κs = search needs
 
 returns : tie.Need-returns
 returns c =
-    let a = c .before .before .before .args in
-    (c .refused .ensures .0 ∙ sym (out-of-range (a .opened) (a .held) (counting (a .opened) (a .held) (a .pool)) (a .order) (sym (c .before .before .in-range .ensures) ∙ not-true _ (c .before .if1 .taken))), c .refused .ensures .1 ∙ ap (poolOr (a .pool)) (sym (c .refused .ensures .0)))
+    let s = c .before .before .before in
+    let a = s .args in
+    let bad = sym (c .before .before .in-range .ensures) ∙ not-true _ (c .before .if1 .taken) in
+    (c .refused .ensures .0 ∙ sym (out-of-range (a .opened) (a .held) (kept s) (a .order) (a .depot) bad), c .refused .ensures .1 ∙ ap (poolOr (a .pool)) (sym (c .refused .ensures .0)))
+
+refused-requires-2 : tie.Need-refused-requires-2
+refused-requires-2 c κs = search needs
+
+returns-2 : tie.Need-returns-2
+returns-2 c =
+    let else = c .before .before in
+    let s = else .before .before in
+    let a = s .args in
+    (c .refused2 .ensures .0 ∙ sym (no-depot (a .opened) (a .held) (kept s) (a .order) (a .depot) (inside else) (c .before .if2 .taken)), c .refused2 .ensures .1 ∙ ap (poolOr (a .pool)) (sym (c .refused2 .ensures .0)))
 
 take-requires : tie.Need-take-requires
 take-requires c κs = search needs
@@ -52,38 +67,77 @@ take-requires c κs = search needs
 valid-requires : tie.Need-valid-requires
 valid-requires c κs = search needs
 
-refused-requires-2 : tie.Need-refused-requires-2
-refused-requires-2 c κs = search needs
-
-returns-2 : tie.Need-returns-2
-returns-2 c =
-    let a = c .before .before .before .before .before .before .before .before .before .before .args in
-    let bad = ap (λ (r : List ℕ). valid r (a .order)) (sym (releases-are (c .before .before .before .before .before))) ∙ sym (c .before .before .valid .ensures) ∙ not-true _ (c .before .if2 .taken) in
-    (c .refused2 .ensures .0 ∙ sym (not-valid (a .opened) (a .held) (counting (a .opened) (a .held) (a .pool)) (a .order) (inside (c .before .before .before .before .before .before .before .before)) bad), c .refused2 .ensures .1 ∙ ap (poolOr (a .pool)) (sym (c .refused2 .ensures .0)))
-
 refused-requires-3 : tie.Need-refused-requires-3
 refused-requires-3 c κs = search needs
 
 returns-3 : tie.Need-returns-3
 returns-3 c =
-    let a = c .before .before .before .before .before .before .before .before .before .before .before .before .args in
-    let fine = ap (λ (r : List ℕ). valid r (a .order)) (sym (releases-are (c .before .before .before .before .before .before .before))) ∙ sym (c .before .before .before .before .valid .ensures) ∙ not-false _ (c .before .before .before .if2 .left) in
-    let over : room ≤ length (counting (a .opened) (a .held) (a .pool)) = omega (arith, c .before .if3 .taken, ap (λ (p : Pool). p .count) (c .before .before .before .before .before .before .before .before .before .before .before .before .pre)) in
-    (c .refused3 .ensures .0 ∙ sym (full (a .opened) (a .held) (counting (a .opened) (a .held) (a .pool)) (a .order) (inside (c .before .before .before .before .before .before .before .before .before .before)) fine over), c .refused3 .ensures .1 ∙ ap (poolOr (a .pool)) (sym (c .refused3 .ensures .0)))
+    let take = c .before .before .before .before .before in
+    let known = take .before .before .before in
+    let s = known .before .before .before in
+    let a = s .args in
+    let bad = ap (λ (r : List ℕ). valid r (a .order)) (sym (releases-are take)) ∙ sym (c .before .before .valid .ensures) ∙ not-true _ (c .before .if3 .taken) in
+    (c .refused3 .ensures .0 ∙ sym (not-valid (a .opened) (a .held) (kept s) (a .order) (a .depot) (inside (known .before)) (known .if2 .left) bad), c .refused3 .ensures .1 ∙ ap (poolOr (a .pool)) (sym (c .refused3 .ensures .0)))
 
-added-requires : tie.Need-added-requires
-added-requires c κs =
-    c .before .if3 .left
+of-depot-requires : tie.Need-of-depot-requires
+of-depot-requires c κs = search needs
+
+-- what is known where the depot's share is looked at
+module _ (c : tie.After-of-depot) where
+  abbrev take : tie.After-take
+  take = c .before .before .before .before .before
+
+  abbrev start : tie.Start
+  start = take .before .before .before .before .before .before
+
+  fine : valid (taking room (start .args .held .whole .releases) (ordersOf (kept start)) .releases) (start .args .order) ≡ true
+  fine =
+      ap (λ (r : List ℕ). valid r (start .args .order)) (sym (releases-are take)) ∙ sym (c .before .before .valid .ensures)
+      ∙ not-false _ (c .before .if3 .left)
+
+  share : c .of-depot .result ≡ shareOf (start .args .depot) (kept start)
+  share =
+      c .of-depot .ensures ∙ ap (λ (p : Pool). shareOf (start .args .depot) (entriesIn p)) (start .pre .0)
+      ∙ ap (shareOf (start .args .depot)) (entries-of (kept start))
+
+refused-requires-4 : tie.Need-refused-requires-4
+refused-requires-4 c κs = search needs
 
 returns-4 : tie.Need-returns-4
 returns-4 c =
-    let a = c .before .before .before .before .before .before .before .before .before .before .before .before .before .args in
-    let fine = ap (λ (r : List ℕ). valid r (a .order)) (sym (releases-are (c .before .before .before .before .before .before .before .before))) ∙ sym (c .before .before .before .before .before .valid .ensures) ∙ not-false _ (c .before .before .before .before .if2 .left) in
-    let l = counting (a .opened) (a .held) (a .pool) in
-    let less : length l < room = omega (arith, c .before .before .if3 .left, ap (λ (p : Pool). p .count) (c .before .before .before .before .before .before .before .before .before .before .before .before .before .pre)) in
-    let is = c .added .ensures ∙ ap (λ (p : Pool). record { count = p .count + 1; entries = set (p .entries) (p .count) (record { order = a .order; slot = a .opened .clock }) }) (c .before .before .before .before .before .before .before .before .before .before .before .before .before .pre)
-    ∙ pool-add l (record { order = a .order; slot = a .opened .clock }) less in
-    (ap gives is ∙ sym (joins (a .opened) (a .held) (counting (a .opened) (a .held) (a .pool)) (a .order) (inside (c .before .before .before .before .before .before .before .before .before .before .before)) fine less), refl)
+    let at = c .before .before in
+    let known = take at .before .before .before in
+    let s = start at in
+    let a = s .args in
+    let full = depot-full (a .opened) (a .held) (kept s) (a .order) (a .depot) (inside (known .before)) (known .if2 .left) (fine at) (omega (arith, share at, c .before .if4 .taken)) in
+    (c .refused4 .ensures .0 ∙ sym full, c .refused4 .ensures .1 ∙ ap (poolOr (a .pool)) (sym (c .refused4 .ensures .0)))
+
+-- a depot with room in its share
+own : (c : tie.Else4) → shareOf (start (c .before) .args .depot) (kept (start (c .before))) < depotRoom
+own c = omega (arith, share (c .before), c .if4 .left)
+
+less : (c : tie.Else4) → length (kept (start (c .before))) < room
+less c =
+    let s = start (c .before) in
+    let a = s .args in
+    let known = take (c .before) .before .before .before in
+    room-left (kept s) (a .depot) (counting-known (a .opened) (a .held) (a .pool) (s .pre .1)) (counting-shares (a .opened) (a .held) (a .pool) (s .pre .1))
+    (known .if2 .left) (own c)
+
+added-requires : tie.Need-added-requires
+added-requires c κs = omega (arith, less (c .before), ap (λ (p : Pool). p .count) (start (c .before .before) .pre .0))
+
+returns-5 : tie.Need-returns-5
+returns-5 c =
+    let else = c .before .before in
+    let at = else .before in
+    let known = take at .before .before .before in
+    let s = start at in
+    let a = s .args in
+    let l = kept s in
+    let new : Entry = record { order = a .order; slot = a .opened .clock; depot = a .depot } in
+    let is = c .added .ensures ∙ ap (λ (p : Pool). record { count = p .count + 1; entries = set (p .entries) (p .count) new }) (s .pre .0) ∙ pool-add l new (less else) in
+    (ap gives is ∙ sym (joins (a .opened) (a .held) l (a .order) (a .depot) (inside (known .before)) (known .if2 .left) (fine at) (own else) (less else)), refl)
 
 pub join-spec : {M : Type 1} → statement M
 join-spec =
@@ -92,11 +146,14 @@ join-spec =
     in-range-requires
     refused-requires
     returns
-    take-requires
-    valid-requires
     refused-requires-2
     returns-2
+    take-requires
+    valid-requires
     refused-requires-3
     returns-3
+    of-depot-requires
+    refused-requires-4
+    returns-4
     added-requires
-    returns-4)
+    returns-5)

@@ -35,7 +35,7 @@ counting-requires : tie.Need-counting-requires
 counting-requires c κs = search needs
 
 join-requires : tie.Need-join-requires
-join-requires c κs = c .counting .ensures
+join-requires c κs = (c .counting .ensures, sym (c .before .before .fits2 .ensures) ∙ not-false _ (c .before .if1 .left))
 
 returns-2 : tie.Need-returns-2
 returns-2 c =

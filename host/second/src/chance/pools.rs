@@ -1,4 +1,5 @@
-//! Pools by chance, each with a held chain behind which most of its orders are valid.
+//! Pools by chance, each with a held chain behind which most of its orders are valid. Depots have all the room that they need, most often, and are
+//! crowded often enough to be seen.
 use super::Chance;
 use crate::chain;
 use crate::genesis::Opening;
@@ -18,12 +19,14 @@ impl Chance {
         if let Ok(summary) = chain::summary(&opening, &case.held, case.held_length) {
             releases = summary.whole.releases;
         }
-        case.pool = self.pool(case.now.0, &mut releases);
+        case.depot = self.depot();
+        case.pool = self.pool(case.now.0, case.depot, &mut releases);
         case.order = self.offered(&mut releases);
         match self.below(90) {
             0..=2 => case.order.display = self.small(),
             3 => case.order.expected = self.above(),
             4 => case.order.new = self.above(),
+            5 => case.depot = self.small(),
             _ => (),
         }
         case.controller = opening.genesis.turn(case.now) + u32::from(self.once_in(20));
@@ -36,21 +39,42 @@ impl Chance {
         case
     }
 
-    /// A pool of entries that are up to seven slots old, and what they put on these releases. Its count or an entry is bad now and then.
-    fn pool(&mut self, now: u32, releases: &mut Releases) -> Pool {
-        let most = self.of(&[3, 12, 65]);
-        let count = if self.once_in(20) {
-            64
-        } else {
-            self.below(most)
-        };
-        let entries: Vec<Entry> = (0..count)
-            .map(|_| {
-                let age = self.below(8) as u32;
-                samples::entry(self.offered(releases), now.saturating_sub(age).max(1))
+    /// A depot.
+    pub fn depot(&mut self) -> u32 {
+        self.of(&[0, 1, 2, 3])
+    }
+
+    /// A pool of entries that are up to seven slots old, and what they put on these releases. Its count or an entry is bad now and then, and the
+    /// asker's depot is crowded.
+    fn pool(&mut self, now: u32, asker: u32, releases: &mut Releases) -> Pool {
+        let mut origins = Vec::new();
+        if self.once_in(5) {
+            origins.extend(self.crowd(asker));
+        }
+        let most = self.of(&[3, 12, 47]);
+        for _ in 0..self.below(most) {
+            let place = self.below(origins.len() + 1);
+            origins.insert(place, (self.depot(), self.of(&[0, 1, 2, 3, 4, 5, 6, 7])));
+        }
+        let entries: Vec<Entry> = origins
+            .into_iter()
+            .map(|(depot, age)| {
+                let slot = now.saturating_sub(age).max(1);
+                samples::entry(self.offered(releases), slot).of_depot(depot)
             })
             .collect();
-        let mut pool = Pool::of(&entries);
+        self.faulty_pool(Pool::of(&entries))
+    }
+
+    /// Depot and age of about as many entries as a depot has room for, nearly all of them of this slot.
+    fn crowd(&mut self, depot: u32) -> Vec<(u32, u32)> {
+        let count = self.of(&[15, 16, 16, 17]);
+        let age = |chance: &mut Chance| u32::from(chance.once_in(30));
+        (0..count).map(|_| (depot, age(self))).collect()
+    }
+
+    /// A pool with a fault now and then, within the count or behind it.
+    fn faulty_pool(&mut self, mut pool: Pool) -> Pool {
         let place = self.below(64);
         match self.below(40) {
             0 => pool.count = self.within(0, 64),
@@ -59,6 +83,8 @@ impl Chance {
             2 => pool.entries[place].order.expected = self.above(),
             3 => pool.entries[0].order.expected = self.above(),
             4 => pool.entries[0].order.new = self.above(),
+            5 => pool.entries[place].depot = self.small(),
+            6 => pool.entries[0].depot = self.of(&[4, 5, 256, u32::MAX]),
             _ => (),
         }
         pool

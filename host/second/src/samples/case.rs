@@ -2,8 +2,9 @@
 use std::mem;
 
 use super::{
-    at, bad_chains, bad_geneses, bad_lengths, bad_pools, chain, empty_blocks, entry, good_chain,
-    order, put, table, verdicts, BAD_NOWS, BLOCK, COUNT, DISPLAY, FILLER, NEW, NOW, SLOT,
+    at, bad_chains, bad_geneses, bad_lengths, bad_pools, chain, crowd, empty_blocks, entry,
+    good_chain, order, put, table, verdicts, BAD_NOWS, BLOCK, COUNT, DISPLAY, FILLER, NEW, NOW,
+    SLOT,
 };
 use crate::calls::{Adopt, Append, Check, Choose, Offer, Report, Write};
 use crate::chain::LONGEST;
@@ -24,6 +25,7 @@ pub struct Case {
     pub verdicts: Vec<u8>,
     pub pool: Pool,
     pub order: Order,
+    pub depot: u32,
     pub controller: u32,
     pub slot_signature: [u8; 64],
     pub block_signature: [u8; 64],
@@ -31,8 +33,8 @@ pub struct Case {
 }
 
 impl Case {
-    /// A case that every call accepts: two blocks without orders are held, five are delivered, the pool takes display 2 from 40 to 41, and
-    /// the offered order from 41 to 42.
+    /// A case that every call accepts: two blocks without orders are held, five are delivered, the pool takes display 2 from 40 to 41 for depot
+    /// 1, and the offered order from 41 to 42 for depot 3.
     pub fn good() -> Case {
         let genesis = table();
         let mut held = chain(&genesis, &empty_blocks(&[1, 3]));
@@ -44,8 +46,9 @@ impl Case {
             held_length,
             delivered: good_chain(&genesis),
             verdicts: verdicts(5),
-            pool: Pool::of(&[entry(order(2, 40, 41), 18)]),
+            pool: Pool::of(&[entry(order(2, 40, 41), 18).of_depot(1)]),
             order: order(2, 41, 42),
+            depot: 3,
             controller: 2,
             slot_signature: [0x51; 64],
             block_signature: [0xB1; 64],
@@ -97,6 +100,7 @@ impl Case {
             self.held_length,
             &mut self.pool,
             self.order,
+            self.depot,
         )
     }
 
@@ -174,10 +178,7 @@ pub fn pooling_faults() -> Vec<Fault> {
         (refusal(18), |case| case.pool.count = 65),
         (refusal(5), |case| case.order.display = 64),
         (refusal(14), |case| case.order.new = case.order.expected),
-        (refusal(13), |case| {
-            case.pool.count = 64;
-            case.pool.entries[1..].fill(entry(order(9, 9, 9), 16));
-        }),
+        (refusal(20), |case| crowd(&mut case.pool, case.depot, 16)),
     ]
 }
 
@@ -197,9 +198,16 @@ pub fn issuing_faults() -> Vec<Fault> {
     ]
 }
 
+/// These faults, and the same with other ways to meet 18 and 5: by releases, and by depots.
+pub fn kinds(faults: Vec<Fault>) -> Vec<Vec<Fault>> {
+    let releases = of_releases(&faults);
+    let depots = of_depots(&faults);
+    [vec![faults], releases.into(), depots.into()].concat()
+}
+
 /// These faults, where a release above the largest is what is wrong with the pool and with an offer: the expected one in the pool and the new
 /// one in the offer, and the other way round.
-pub fn of_releases(faults: &[Fault]) -> [Vec<Fault>; 2] {
+fn of_releases(faults: &[Fault]) -> [Vec<Fault>; 2] {
     let expected = with(faults, 18, |case| {
         case.pool.entries[0].order.expected = LARGEST + 1
     });
@@ -210,6 +218,13 @@ pub fn of_releases(faults: &[Fault]) -> [Vec<Fault>; 2] {
         with(&expected, 5, |case| case.order.new = LARGEST + 1),
         with(&new, 5, |case| case.order.expected = LARGEST + 1),
     ]
+}
+
+/// These faults, where a depot is what is wrong with the pool and with an offer: one above 3, and in the pool one with 17 counting entries.
+fn of_depots(faults: &[Fault]) -> [Vec<Fault>; 2] {
+    let above = with(faults, 18, |case| case.pool.entries[0].depot = 4);
+    let crowded = with(faults, 18, |case| crowd(&mut case.pool, 2, 17));
+    [above, crowded].map(|faults| with(&faults, 5, |case| case.depot = 4))
 }
 
 /// These faults, where another one is met with this number.

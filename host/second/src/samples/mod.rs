@@ -8,7 +8,7 @@ use super::chain;
 use super::genesis::Genesis;
 use super::number::{self, LARGEST};
 use super::order::{Order, Release, Slot};
-use super::pool::{Entry, Pool, ROOM};
+use super::pool::{Entry, Pool, DEPOTS, ROOM};
 use super::{sha256, Refusal};
 
 /// The clock reading of the samples.
@@ -332,50 +332,113 @@ pub fn bad_lengths(genesis: &[u8]) -> Vec<(Vec<u8>, usize)> {
     ]
 }
 
-/// An entry.
+/// An entry of depot 0.
 pub fn entry(order: Order, slot: u32) -> Entry {
     Entry {
         order,
         slot: Slot(slot),
+        depot: 0,
     }
+}
+
+impl Entry {
+    /// The same entry of another depot.
+    pub fn of_depot(self, depot: u32) -> Entry {
+        Entry { depot, ..self }
+    }
+}
+
+/// These entries, of the four depots in turn: 64 of them are 16 of each.
+pub fn in_turn(entries: &[Entry]) -> Vec<Entry> {
+    let depots = DEPOTS.cycle();
+    entries
+        .iter()
+        .zip(depots)
+        .map(|(entry, depot)| entry.of_depot(depot))
+        .collect()
+}
+
+/// Puts so many entries of a depot behind those of a pool. They count at slot 20, and no state makes them valid.
+pub fn crowd(pool: &mut Pool, depot: u32, entries: u32) {
+    let crowding = entry(order(9, 9, 9), 16).of_depot(depot);
+    for _ in 0..entries {
+        pool.entries[pool.count as usize] = crowding;
+        pool.count += 1;
+    }
+}
+
+/// A pool of 64 entries, 16 of each depot, that count at slot 20.
+fn full_pool() -> Pool {
+    Pool::of(&in_turn(&[entry(order(0, 0, 1), 18); ROOM]))
+}
+
+/// The full pool with a fault at one of its places, and which.
+fn bad_entries(place: usize) -> Vec<(String, Pool)> {
+    let mut bad = Vec::new();
+    let mut push = |fault: String, change: &dyn Fn(&mut Entry)| {
+        let mut pool = full_pool();
+        change(&mut pool.entries[place]);
+        bad.push((format!("entry {place}: {fault}"), pool));
+    };
+    for display in [64, 256, u32::MAX] {
+        push(format!("display {display}"), &|entry| {
+            entry.order.display = display
+        });
+    }
+    for slot in [0, 21, 257, 65_536, u32::MAX] {
+        push(format!("slot {slot}"), &|entry| entry.slot = Slot(slot));
+    }
+    for above in [LARGEST + 1, u64::MAX] {
+        push(format!("expected {above}"), &|entry| {
+            entry.order.expected = above
+        });
+        push(format!("new {above}"), &|entry| entry.order.new = above);
+    }
+    for depot in [4, 256, u32::MAX] {
+        push(format!("depot {depot}"), &|entry| entry.depot = depot);
+    }
+    bad
+}
+
+/// Pools with more than 16 counting entries of a depot, and of which.
+fn crowded_pools() -> Vec<(String, Pool)> {
+    let mut bad = Vec::new();
+    for depot in DEPOTS {
+        let mut pool = Pool::of(&[]);
+        crowd(&mut pool, depot, 17);
+        bad.push((format!("17 counting entries of depot {depot}"), pool));
+    }
+    let mut full = full_pool();
+    full.entries[0].depot = 3;
+    bad.push(("64 entries, 17 of depot 3".into(), full));
+    let one = Pool::of(&[entry(order(0, 0, 1), 18); ROOM]);
+    bad.push(("64 entries of depot 0".into(), one));
+    bad
 }
 
 /// Pools that meet 18 at slot 20, and why.
 pub fn bad_pools() -> Vec<(String, Pool)> {
     let mut bad = Vec::new();
-    let good = Pool::of(&[entry(order(0, 0, 1), 18); ROOM]);
     for count in [65, 128, 257, u32::MAX] {
         let pool = Pool {
             count,
-            ..good.clone()
+            ..full_pool()
         };
         bad.push((format!("count {count}"), pool));
     }
-    for place in [0, 31, 63] {
-        for display in [64, 256, u32::MAX] {
-            let mut pool = good.clone();
-            pool.entries[place].order.display = display;
-            bad.push((format!("entry {place}: display {display}"), pool));
-        }
-        for slot in [0, 21, 257, 65_536, u32::MAX] {
-            let mut pool = good.clone();
-            pool.entries[place].slot = Slot(slot);
-            bad.push((format!("entry {place}: slot {slot}"), pool));
-        }
-        for above in [LARGEST + 1, u64::MAX] {
-            let [mut expected, mut new] = [good.clone(), good.clone()];
-            expected.entries[place].order.expected = above;
-            new.entries[place].order.new = above;
-            bad.push((format!("entry {place}: expected {above}"), expected));
-            bad.push((format!("entry {place}: new {above}"), new));
-        }
+    bad.extend([0, 31, 63].into_iter().flat_map(bad_entries));
+    for (fault, old) in [
+        ("display 64 to 1", entry(order(64, 0, 1), 1)),
+        (
+            "display 0 to 34359738368",
+            entry(order(0, 0, LARGEST + 1), 1),
+        ),
+        ("depot 4", entry(order(0, 0, 1), 1).of_depot(4)),
+    ] {
+        let mut pool = full_pool();
+        (pool.count, pool.entries[0]) = (1, old);
+        bad.push((format!("an entry that no longer counts: {fault}"), pool));
     }
-    for old in [order(64, 0, 1), order(0, 0, LARGEST + 1)] {
-        let mut pool = good.clone();
-        (pool.count, pool.entries[0]) = (1, entry(old, 1));
-        let Order { display, new, .. } = old;
-        let name = format!("an entry that no longer counts: display {display} to {new}");
-        bad.push((name, pool));
-    }
+    bad.extend(crowded_pools());
     bad
 }

@@ -74,6 +74,7 @@ pub fn lent_pool(pool: &Pool) -> ledger::Pool {
         entries: pool.entries.map(|entry| ledger::Entry {
             order: lent_order(entry.order),
             slot: lent_slot(entry.slot),
+            depot: entry.depot,
         }),
     }
 }
@@ -84,6 +85,7 @@ pub fn pool(pool: &ledger::Pool) -> Pool {
         entries: pool.entries.map(|entry| Entry {
             order: order(entry.order),
             slot: Slot(entry.slot.0),
+            depot: entry.depot,
         }),
     }
 }

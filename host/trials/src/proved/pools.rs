@@ -6,7 +6,7 @@ use second::order::{Order, Slot};
 use second::pool::Pool;
 use second::Refusal;
 
-/// Pools an order.
+/// Pools an order of a depot.
 pub fn offer(
     genesis: &[u8],
     now: Slot,
@@ -14,10 +14,11 @@ pub fn offer(
     held_length: usize,
     pool: &mut Pool,
     order: Order,
+    depot: u32,
 ) -> Result<(), Refusal> {
     let held = Held::stored(held, held_length);
     let mut lent = lent_pool(pool);
-    let offered = held.offer(genesis, lent_slot(now), &mut lent, lent_order(order));
+    let offered = held.offer(genesis, lent_slot(now), &mut lent, lent_order(order), depot);
     *pool = across::pool(&lent);
     offered.map_err(across::refusal)
 }
@@ -66,7 +67,7 @@ mod tests {
     use crate::both::{Call, CALLS};
     use crate::rounds::rounds;
     use second::chance::Chance;
-    use second::samples::{self, Case, Fault};
+    use second::samples::{self, Case};
 
     /// The calls that have this refusal.
     fn calls(number: u32) -> impl Iterator<Item = &'static Call> {
@@ -87,14 +88,10 @@ mod tests {
 
     #[test]
     fn the_earliest_of_several_faults() {
-        let kinds = |faults: Vec<Fault>| {
-            let [expected, new] = samples::of_releases(&faults);
-            [faults, expected, new]
-        };
-        for faults in kinds(samples::pooling_faults()) {
+        for faults in samples::kinds(samples::pooling_faults()) {
             calls(14).for_each(|call| samples::refuses_in_order(&faults, call.make));
         }
-        for faults in kinds(samples::issuing_faults()) {
+        for faults in samples::kinds(samples::issuing_faults()) {
             calls(12).for_each(|call| samples::refuses_in_order(&faults, call.make));
         }
     }

@@ -46,15 +46,18 @@ impl Controller {
         Ok(count)
     }
 
+    /// Is offered an order by a depot.
     pub fn offer(
         &mut self,
         station: &Station,
         calls: &Calls,
         now: Slot,
         order: Order,
+        depot: u32,
     ) -> Result<(), Refusal> {
         let genesis = &station.bytes;
-        (calls.offer)(genesis, now, &self.held, self.length, &mut self.pool, order)
+        let (held, pool) = (&self.held, &mut self.pool);
+        (calls.offer)(genesis, now, held, self.length, pool, order, depot)
     }
 
     /// Signs the slot text and the block text, and appends.

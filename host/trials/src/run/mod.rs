@@ -158,7 +158,8 @@ impl<'a> Run<'a> {
             let opening = Opening::new(&self.station.bytes, now).unwrap();
             let held = chain::summary(&opening, &one.held, one.length).unwrap();
             let order = self.chance.order_at(&mut held.whole.releases.clone());
-            let offered = one.offer(&self.station, self.calls, now, order);
+            let depot = self.chance.depot();
+            let offered = one.offer(&self.station, self.calls, now, order, depot);
             self.account.pooled += u32::from(offered.is_ok());
         }
     }

@@ -4,7 +4,7 @@ use second::issue;
 use second::number::LARGEST;
 use second::order::{Order, Release, Slot};
 use second::pool::{Entry, Pool};
-use second::samples::{self, entry, order, BLOCK, FILLER, LONG_START};
+use second::samples::{self, entry, in_turn, order, BLOCK, FILLER, LONG_START};
 use second::{refusal, sha256, Refusal};
 
 use crate::case::{bytes_text, case, refused, told, Case, Field, Op, Section};
@@ -20,8 +20,8 @@ pub enum Call {
 
 pub const CALLS: [Call; 3] = [Call::Draft, Call::Text, Call::Append];
 
-/// draft or text GENESIS NOW HELD LENGTH CONTROLLER SLOT-SIGNATURE BUFFER COUNT DISPLAY EXPECTED NEW SLOT ..
-/// append GENESIS NOW BUFFER LENGTH CONTROLLER SLOT-SIGNATURE BLOCK-SIGNATURE COUNT DISPLAY EXPECTED NEW SLOT ..
+/// draft or text GENESIS NOW HELD LENGTH CONTROLLER SLOT-SIGNATURE BUFFER COUNT DISPLAY EXPECTED NEW SLOT DEPOT ..
+/// append GENESIS NOW BUFFER LENGTH CONTROLLER SLOT-SIGNATURE BLOCK-SIGNATURE COUNT DISPLAY EXPECTED NEW SLOT DEPOT ..
 pub struct Issuing(pub Call, pub Arguments);
 
 impl Issuing {
@@ -143,6 +143,7 @@ fn none_taken() -> Vec<Case> {
         taken("no entry is valid", &[invalid; 3], &[]),
         taken("no entry counts", &[old; 3], &[]),
         taken("neither", &[old, invalid, old], &[]),
+        taken("64 of one depot, none counts", &[old; 64], &[]),
         issued("the first block", &first, &genesis, &[]),
     ]
     .into_iter()
@@ -163,9 +164,10 @@ fn some_taken() -> Vec<Case> {
     let each: Vec<Entry> = (0..64)
         .map(|display| entry(order(display, 0, 1), 20))
         .collect();
+    let each = in_turn(&each);
     let first = [0, 1, 3, 4, 5, 6, 7, 8].map(|display| order(display, 0, 1));
     let mut spare = pooled(&mixed);
-    spare.pool.entries[6..].fill(entry(order(u32::MAX, LARGEST + 1, u64::MAX), 0));
+    spare.pool.entries[6..].fill(entry(order(u32::MAX, LARGEST + 1, u64::MAX), 0).of_depot(4));
     let before = spare.held[162..324].to_vec();
     let large_orders = [order(2, 40, 1 << 32), order(2, 1 << 32, LARGEST)];
     let large = large_orders.map(|order| entry(order, 20));

@@ -2,13 +2,13 @@
 use second::number::LARGEST;
 use second::order::{Order, Release, Slot};
 use second::pool::{self, Entry, Pool, ROOM};
-use second::samples::{self, entry, order, BLOCK};
+use second::samples::{self, entry, in_turn, order, BLOCK};
 use second::{refusal, Refusal};
 
 use crate::case::{case, refused, Case, Field, Op, Section};
 use crate::faults::{at, bad_blocks, bad_openings, several, Arguments};
 
-/// offer GENESIS NOW HELD LENGTH DISPLAY EXPECTED NEW COUNT DISPLAY EXPECTED NEW SLOT ..
+/// offer GENESIS NOW HELD LENGTH DISPLAY EXPECTED NEW DEPOT COUNT DISPLAY EXPECTED NEW SLOT DEPOT ..
 pub struct Offer(pub Arguments);
 
 impl Op for Offer {
@@ -26,6 +26,7 @@ impl Op for Offer {
             given.order.display.into(),
             given.order.expected.into(),
             given.order.new.into(),
+            given.depot.into(),
         ];
         fields.extend(pool_fields(&given.pool));
         fields
@@ -40,13 +41,14 @@ impl Op for Offer {
     }
 }
 
-fn numbers(entry: &Entry) -> [u64; 4] {
+fn numbers(entry: &Entry) -> [u64; 5] {
     let Order {
         display,
         expected,
         new,
     } = entry.order;
-    [display.into(), expected, new, entry.slot.0.into()]
+    let slot = entry.slot.0.into();
+    [display.into(), expected, new, slot, entry.depot.into()]
 }
 
 /// A pool's count, and its entries up to the last that is not of zeros.
@@ -97,13 +99,14 @@ fn kept(name: impl Into<String>, given: Arguments, refusal: Refusal) -> Case {
 /// The first release that 32 bits do not hold.
 const ABOVE: Release = 1 << 32;
 
-/// Offered at slot 20 to one who holds no blocks; u is 5, display 2 at release 40, the others at 0.
+/// Offered by depot 0 at slot 20 to one who holds no blocks; u is 5, display 2 at release 40, the others at 0.
 fn at_20(pool: Pool, order: Order) -> Arguments {
     Arguments {
         held: vec![],
         held_length: 0,
         pool,
         order,
+        depot: 0,
         ..Arguments::good()
     }
 }
@@ -129,7 +132,7 @@ fn dropped() -> Vec<Case> {
     ];
     let young = [entries[1], entries[3], entry(new, 20)];
     let mut spare = Pool::of(&entries);
-    spare.entries[4..].fill(entry(order(u32::MAX, LARGEST + 1, u64::MAX), 0));
+    spare.entries[4..].fill(entry(order(u32::MAX, LARGEST + 1, u64::MAX), 0).of_depot(4));
     let only_old = order(2, 41, 42);
     vec![
         behind("a pool of no entries", &[], order(2, 40, 41)),
@@ -249,26 +252,68 @@ fn chain_below() -> Vec<Case> {
     cases
 }
 
-fn room() -> Vec<Case> {
-    let full = [entry(order(9, 9, 9), 16); ROOM];
-    let new = order(0, 0, 1);
-    let mut cases = vec![
-        behind("63 entries count", &full[1..], new),
-        refuses("64 entries count", &full, new, 13),
-        refuses("64 entries count, not valid", &full, order(0, 1, 2), 14),
-        refuses("64 entries count, display 64", &full, order(64, 0, 1), 5),
-    ];
-    for place in [0, 31, 63] {
-        let mut entries = full;
-        entries[place].slot = Slot(15);
-        let mut after = full;
-        after[63] = entry(new, 20);
-        let name = format!("64 entries, the one at place {place} no longer counts");
-        cases.push(pooled(name, at_20(Pool::of(&entries), new), &after));
+/// A depot offers an order for display 0 behind these entries.
+fn by_depot(depot: u32, entries: &[Entry]) -> Arguments {
+    Arguments {
+        depot,
+        ..at_20(Pool::of(entries), order(0, 0, 1))
     }
+}
+
+/// It is pooled behind all of them.
+fn room_for(name: &str, depot: u32, entries: &[Entry]) -> Case {
+    let new = entry(order(0, 0, 1), 20).of_depot(depot);
+    let after = [entries, &[new]].concat();
+    pooled(name, by_depot(depot, entries), &after)
+}
+
+fn no_room_for(name: &str, depot: u32, entries: &[Entry], order: Order, number: u32) -> Case {
+    let given = Arguments {
+        order,
+        ..by_depot(depot, entries)
+    };
+    kept(name, given, refusal(number))
+}
+
+/// 02: "a depot may have at most 16 counting entries", and "20 .. after 14". Entries from slot 16 on count.
+fn room() -> Vec<Case> {
+    let new = order(0, 0, 1);
+    let full = [entry(order(9, 9, 9), 16); 16];
+    let of_two = full.map(|entry| entry.of_depot(2));
+    let all = in_turn(&[entry(order(9, 9, 9), 16); ROOM]);
+    let mut one_old = full;
+    one_old[7].slot = Slot(15);
+    let after = [&full[1..], &[entry(new, 20)]].concat();
     let old = [entry(order(9, 9, 9), 15); ROOM];
-    let given = at_20(Pool::of(&old), new);
-    cases.push(pooled("64 entries, none counts", given, &[entry(new, 20)]));
+    vec![
+        room_for("15 of depot 0", 0, &full[1..]),
+        no_room_for("16 of depot 0", 0, &full, new, 20),
+        room_for("16 of depot 2, depot 3 asks", 3, &of_two),
+        room_for("16 of depot 2, depot 0 asks", 0, &of_two),
+        no_room_for("16 of depot 2, it asks", 2, &of_two, new, 20),
+        no_room_for("and is not valid", 2, &of_two, order(0, 1, 2), 14),
+        no_room_for("and for display 64", 2, &of_two, order(64, 0, 1), 5),
+        room_for("63 entries, 15 of depot 0", 0, &all[1..]),
+        no_room_for("63 entries, 16 of depot 1", 1, &all[1..], new, 20),
+        no_room_for("64 entries, 16 of depot 0", 0, &all, new, 20),
+        no_room_for("64 entries, 16 of depot 3", 3, &all, new, 20),
+        pooled("16, one no longer counts", by_depot(0, &one_old), &after),
+        pooled("64, none counts", by_depot(0, &old), &after[15..]),
+    ]
+}
+
+/// 02: "a depot above 3 is .. 5 in an offer", whether or not the order would be valid.
+fn depots() -> Vec<Case> {
+    let one = [entry(order(2, 40, 41), 18)];
+    let mut cases: Vec<Case> = [4, 256, u32::MAX]
+        .map(|depot| {
+            let name = format!("depot {depot}");
+            no_room_for(&name, depot, &one, order(0, 0, 1), 5)
+        })
+        .into();
+    let both = no_room_for("depot 4, display 64", 4, &one, order(64, 0, 1), 5);
+    let invalid = no_room_for("depot 4, not valid", 4, &one, order(0, 1, 2), 5);
+    cases.extend([both, invalid]);
     cases
 }
 
@@ -286,17 +331,17 @@ fn displays() -> Vec<Case> {
         .into()
 }
 
-/// 02: "a release above the largest is 5 in an offer", whether or not it would be valid, and where the pool is full.
+/// 02: "a release above the largest is 5 in an offer", whether or not it would be valid, and where the depot has no room.
 fn releases() -> Vec<Case> {
     let one = [entry(order(2, 40, 41), 18)];
-    let full = [entry(order(9, 9, 9), 16); ROOM];
+    let full = [entry(order(9, 9, 9), 16); 16];
     let large = LARGEST + 1;
     vec![
         refuses("expected 34,359,738,368", &one, order(2, large, 41), 5),
         refuses("new 34,359,738,368", &one, order(2, 41, large), 5),
         refuses("both", &one, order(2, large, large), 5),
         refuses("new 2^64 - 1", &one, order(2, 41, u64::MAX), 5),
-        refuses("64 entries count", &full, order(0, 0, large), 5),
+        refuses("16 entries count", &full, order(0, 0, large), 5),
     ]
 }
 
@@ -352,7 +397,8 @@ pub fn sections() -> Vec<Section> {
         section("Pool: how long an entry counts", ages()),
         section("Pool: valid where it would stand, or 14", validity()),
         section("Pool: the chain below decides", chain_below()),
-        section("Pool: 13 if 64 entries still count", room()),
+        section("Pool: 20 if the depot has 16 counting entries", room()),
+        section("Pool: 5 for the depot that offers", depots()),
         section("Pool: 5 for the display offered", displays()),
         section("Pool: 5 for a release offered", releases()),
         section("Pool: 18 for a bad pool", bad_pools()),

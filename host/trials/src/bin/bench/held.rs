@@ -9,8 +9,8 @@ use trials::{both, proved};
 use crate::chains::{row, Chain};
 use crate::{digests, keep, least};
 
-/// So many of the longest blocks are held, in the slot after the last, and so many orders are pooled for other displays than theirs. One
-/// more is offered.
+/// So many of the longest blocks are held, in the slot after the last, and so many orders are pooled for other displays than theirs, by the depots
+/// in turn. One more is offered by depot 3, which has room for it also behind 63.
 fn case(blocks: u32, entries: u32) -> (Case, Chain) {
     let chain = Chain::new(blocks);
     let now = chain.now;
@@ -28,8 +28,9 @@ fn case(blocks: u32, entries: u32) -> (Case, Chain) {
         now,
         held,
         held_length: chain.bytes.len(),
-        pool: Pool::of(&pooled),
+        pool: Pool::of(&samples::in_turn(&pooled)),
         order: order(entries),
+        depot: 3,
         controller: 1,
         ..Case::good()
     };
