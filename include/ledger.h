@@ -53,7 +53,7 @@ extern "C" {
 #endif
 
 /* The interface's version: it changes with every declaration of this header that changes. */
-#define LEDGER_VERSION 4
+#define LEDGER_VERSION 5
 
 /* Limits. */
 #define LEDGER_DISPLAYS 64           /* displays are 0 to 63 */
@@ -62,7 +62,7 @@ extern "C" {
 #define LEDGER_ORDERS 8              /* the most orders of a block */
 #define LEDGER_POOL_ROOM 64          /* the most entries of a pool */
 #define LEDGER_DEPOTS 4              /* depots are 0 to 3 */
-#define LEDGER_DEPOT_ROOM 16         /* the most entries of one depot that may count */
+#define LEDGER_DEPOT_ROOM 16         /* the most entries of one depot: for ledger_add_order of all, for every other call of those that count */
 #define LEDGER_POOL_SLOTS 64         /* the most slots that an order stays pooled: u is 1 to 64 */
 #define LEDGER_NUMBER_BYTES 5        /* the most bytes of a number */
 #define LEDGER_LARGEST UINT64_C(34359738367) /* the largest number, and the largest release: 35 bits */
@@ -98,13 +98,14 @@ extern "C" {
 #define LEDGER_STACK_SLOT_TEXT 256
 #define LEDGER_STACK_WALK_STEP 3072
 #define LEDGER_STACK_CHECK 7936
-#define LEDGER_STACK_CHOOSE 12544
-#define LEDGER_STACK_ADOPT 12800
-#define LEDGER_STACK_POOL_ORDER 23808
-#define LEDGER_STACK_DRAFT 23040
-#define LEDGER_STACK_BLOCK_TEXT 23040
-#define LEDGER_STACK_APPEND 23296
-#define LEDGER_STACK_REPORT 12544
+#define LEDGER_STACK_CHOOSE 15616
+#define LEDGER_STACK_ADOPT 15616
+#define LEDGER_STACK_DROP_ENTRIES 21248
+#define LEDGER_STACK_ADD_ORDER 29440
+#define LEDGER_STACK_DRAFT 25856
+#define LEDGER_STACK_BLOCK_TEXT 25856
+#define LEDGER_STACK_APPEND 26368
+#define LEDGER_STACK_REPORT 15360
 
 /* Refusal numbers. */
 enum ledger_refusal {
@@ -122,15 +123,16 @@ enum ledger_refusal {
     LEDGER_BAD_ORDER = 10,         /* an order not valid at its point */
     LEDGER_NOT_LONGER = 11,        /* not more blocks than held */
     LEDGER_WRONG_CONTROLLER = 12,  /* controller not 1 to n, or not its turn */
-    LEDGER_POOL_FULL = 13,         /* 64 entries still count. It can't occur: each of the four depots has room for 16 of them */
+    LEDGER_POOL_FULL = 13,         /* the pool has 64 entries. It can't occur: each of the four depots has room for 16 of them */
     LEDGER_BAD_OFFER = 14,         /* new order not valid where it would stand */
     LEDGER_SHORT_BUFFER = 15,      /* lent output too short */
     LEDGER_TOO_LONG = 16,          /* delivered chain over 64,256 bytes, or a slice to digest over 65,536 */
     LEDGER_BAD_HELD = 17,          /* held chain bad: longer than its buffer or than 64,256 bytes (place 0), or a block fails 3, 4, 5, 6, 9 or 10,
                                       or its stamp is above now (the block's place). It needs no verdicts, and its last stamp may equal now */
     LEDGER_BAD_POOL = 18,          /* pool bad: count above 64, or within the count an entry with a display above 63, a release above the largest,
-                                      slot 0, a slot above now or a depot above 3, or more than 16 counting entries of one depot */
-    LEDGER_DEPOT_FULL = 20         /* the depot has 16 counting entries */
+                                      slot 0, a slot above now or a depot above 3, or more than 16 counting entries of one depot; of
+                                      ledger_add_order more than 16, counting or not */
+    LEDGER_DEPOT_FULL = 20         /* the depot has 16 entries, counting or not */
 };
 
 /* A slot, or a block's stamp. Apart from a number of blocks, so that neither can be taken for the other. */
@@ -265,7 +267,7 @@ typedef struct {
 typedef struct {
     uint32_t refusal;
     ledger_block_count place;
-    ledger_pool pool; /* as it is then: as it came where the order was refused */
+    ledger_pool pool; /* as it is then: on a refusal as it came */
 } ledger_pool_answer;
 
 typedef struct {
@@ -302,8 +304,8 @@ ledger_key_answer ledger_find_key(const uint8_t *bytes, size_t bytes_length, uin
 /* Whose turn a slot is: a controller, or 0 where the table has none. No refusal: any slot has a turn, and slot 0 is answered as slot 1 is. */
 uint32_t ledger_turn(ledger_genesis table, ledger_slot slot);
 
-/* A block is settled when it lies more than so many slots back: if its slot + depth < now. 0 for a table that was not read, whose n is not 1 to 31 or is
-   below 3t + 1; where it is 255 or more, nothing settles in a run. No refusal. */
+/* A block is settled when it lies more than so many slots back: if its slot + depth < now. 0 for a table that was not read, whose n is not 1 to 31 or
+   is below 3t + 1; where it is 255 or more, nothing settles in a run. No refusal. */
 uint64_t ledger_depth(ledger_genesis table);
 
 /* Reads the block at a place: 3, 4, 5 in byte order. */
@@ -335,15 +337,22 @@ ledger_adopt_answer ledger_adopt(const uint8_t *genesis, size_t genesis_length, 
                                  size_t held_room, size_t length, const uint8_t *delivered, size_t delivered_length,
                                  const uint8_t *verdicts, size_t verdicts_length);
 
-/* Pools an order of a depot behind the entries that still count: 1, 2, 17, 18, 5, 14, 20, 13. The answer's pool takes the old one's place. A depot
-   that has LEDGER_DEPOT_ROOM counting entries is refused (20), whatever the others have. */
-ledger_pool_answer ledger_pool_order(const uint8_t *genesis, size_t genesis_length, ledger_slot clock, const uint8_t *held,
-                                     size_t held_room, size_t length, ledger_pool pool, ledger_order order, uint32_t depot);
+/* Pooling is two calls, and the two are not one: what ledger_drop_entries has dropped stays dropped, also where ledger_add_order then refuses the
+   order. Of both the answer's pool takes the old one's place. */
+
+/* Drops the entries that no longer count, at each slot, or before an order is added: 1, 2, 18. */
+ledger_pool_answer ledger_drop_entries(const uint8_t *genesis, size_t genesis_length, ledger_slot clock, ledger_pool pool);
+
+/* Adds an order of a depot behind all entries, and drops none: 1, 2, 17, 18, 5, 14, 20, 13. Entries that no longer count stay in their places and
+   take room, but are not applied where the order is judged (14). A depot that has LEDGER_DEPOT_ROOM entries is refused (20), whatever the others
+   have. */
+ledger_pool_answer ledger_add_order(const uint8_t *genesis, size_t genesis_length, ledger_slot clock, const uint8_t *held,
+                                    size_t held_room, size_t length, ledger_pool pool, ledger_order order, uint32_t depot);
 
 /* Issuing. Same arguments, same bytes: what was signed is what is appended. So ledger_draft or ledger_block_text, and ledger_append after it,
    must be given the same genesis, clock, held chain and `length`, pool, controller and slot signature, with no other call on the buffer or the
    pool in between. `length` is the held chain's before the block, in all three. The pool does not change: an entry leaves it only when it no
-   longer counts, with the next order that is pooled. */
+   longer counts, by ledger_drop_entries. */
 
 /* Writes the next block without its last 64 bytes: 1, 2, 17, 18, 12, 6, 15. */
 ledger_issue_answer ledger_draft(const uint8_t *genesis, size_t genesis_length, ledger_slot clock, const uint8_t *held,

@@ -194,7 +194,7 @@ static int adopts(const struct chain *c) {
     return 0;
 }
 
-/* Pools an order at slot 20, controller 2's turn, behind the two blocks that are held, and issues it. */
+/* Adds an order at slot 20, controller 2's turn, behind the two blocks that are held, and issues it. */
 static int issues(const struct chain *c) {
     const ledger_slot now = {20};
     uint8_t held[3 * LEDGER_BLOCK_BYTES], draft[LEDGER_DRAFT_BYTES], text[LEDGER_BLOCK_TEXT_BYTES];
@@ -203,11 +203,11 @@ static int issues(const struct chain *c) {
     ledger_pool pool;
     memset(&pool, 0, sizeof pool);
     ledger_order order = {.display = 2, .expected = 42, .new_release = 300};
-    ledger_pool_answer pooled = ledger_pool_order(c->genesis, c->genesis_length, now, held, sizeof held, c->length, pool, order, 3);
+    ledger_pool_answer pooled = ledger_add_order(c->genesis, c->genesis_length, now, held, sizeof held, c->length, pool, order, 3);
     EXPECT(pooled.refusal == 0 && pooled.place.number == 0 && pooled.pool.count == 1);
     EXPECT(same_entry(pooled.pool.entries[0], (ledger_entry){.order = order, .slot = now, .depot = 3}));
     pool = pooled.pool;
-    pooled = ledger_pool_order(c->genesis, c->genesis_length, now, held, sizeof held, c->length, pool, order, 3);
+    pooled = ledger_add_order(c->genesis, c->genesis_length, now, held, sizeof held, c->length, pool, order, 3);
     EXPECT(pooled.refusal == LEDGER_BAD_OFFER && same_pool(&pooled.pool, &pool));
     ledger_signature first, second;
     memset(&first, 0x51, sizeof first);
@@ -237,16 +237,16 @@ static int large_orders(const struct chain *c) {
     ledger_pool pool;
     memset(&pool, 0, sizeof pool);
     ledger_order order = {.display = 2, .expected = 42, .new_release = LEDGER_LARGEST + 1};
-    ledger_pool_answer pooled = ledger_pool_order(genesis, n, now, c->bytes, sizeof c->bytes, c->length, pool, order, 0);
+    ledger_pool_answer pooled = ledger_add_order(genesis, n, now, c->bytes, sizeof c->bytes, c->length, pool, order, 0);
     EXPECT(pooled.refusal == LEDGER_OUT_OF_RANGE && pooled.place.number == 0 && same_pool(&pooled.pool, &pool));
     order.new_release = LEDGER_LARGEST;
     pool.entries[7].order.expected = LEDGER_LARGEST + 1;
-    pooled = ledger_pool_order(genesis, n, now, c->bytes, sizeof c->bytes, c->length, pool, order, 0);
+    pooled = ledger_add_order(genesis, n, now, c->bytes, sizeof c->bytes, c->length, pool, order, 0);
     EXPECT(pooled.refusal == 0 && pooled.pool.count == 1 && same_order(pooled.pool.entries[0].order, order));
     EXPECT(pooled.pool.entries[7].order.expected == 0);
     pool = pooled.pool;
     pool.entries[0].order.new_release = LEDGER_LARGEST + 1;
-    pooled = ledger_pool_order(genesis, n, now, c->bytes, sizeof c->bytes, c->length, pool, order, 0);
+    pooled = ledger_add_order(genesis, n, now, c->bytes, sizeof c->bytes, c->length, pool, order, 0);
     EXPECT(pooled.refusal == LEDGER_BAD_POOL && same_pool(&pooled.pool, &pool));
     return 0;
 }
@@ -257,13 +257,13 @@ static ledger_pool crowded(const struct chain *c, uint32_t depot) {
     memset(&pool, 0, sizeof pool);
     for (uint32_t i = 0; i < LEDGER_DEPOT_ROOM; i++) {
         ledger_order order = {.display = 3 + i, .expected = 0, .new_release = 1};
-        pool = ledger_pool_order(c->genesis, c->genesis_length, (ledger_slot){20}, c->bytes, sizeof c->bytes, c->length, pool, order, depot).pool;
+        pool = ledger_add_order(c->genesis, c->genesis_length, (ledger_slot){20}, c->bytes, sizeof c->bytes, c->length, pool, order, depot).pool;
     }
     return pool;
 }
 
-/* A depot has room for 16 counting entries, whatever the others have: then 20. A depot above 3 is 5 where it offers, and 18 in the pool, and so are
-   17 counting entries of one. */
+/* A depot has room for 16 entries, whatever the others have: then 20. A depot above 3 is 5 where it offers, and 18 in the pool, and so are 17 entries
+   of one. */
 static int depots(const struct chain *c) {
     const ledger_slot now = {20};
     const uint8_t *genesis = c->genesis;
@@ -271,17 +271,44 @@ static int depots(const struct chain *c) {
     const ledger_order order = {.display = 2, .expected = 42, .new_release = 43};
     ledger_pool pool = crowded(c, 1);
     EXPECT(pool.count == LEDGER_DEPOT_ROOM && pool.entries[15].depot == 1 && pool.entries[16].depot == 0);
-    ledger_pool_answer pooled = ledger_pool_order(genesis, n, now, c->bytes, sizeof c->bytes, c->length, pool, order, 1);
+    ledger_pool_answer pooled = ledger_add_order(genesis, n, now, c->bytes, sizeof c->bytes, c->length, pool, order, 1);
     EXPECT(pooled.refusal == LEDGER_DEPOT_FULL && pooled.place.number == 0 && same_pool(&pooled.pool, &pool));
-    pooled = ledger_pool_order(genesis, n, now, c->bytes, sizeof c->bytes, c->length, pool, order, LEDGER_DEPOTS);
+    pooled = ledger_add_order(genesis, n, now, c->bytes, sizeof c->bytes, c->length, pool, order, LEDGER_DEPOTS);
     EXPECT(pooled.refusal == LEDGER_OUT_OF_RANGE && same_pool(&pooled.pool, &pool));
-    pooled = ledger_pool_order(genesis, n, now, c->bytes, sizeof c->bytes, c->length, pool, order, LEDGER_DEPOTS - 1);
+    pooled = ledger_add_order(genesis, n, now, c->bytes, sizeof c->bytes, c->length, pool, order, LEDGER_DEPOTS - 1);
     EXPECT(pooled.refusal == 0 && pooled.pool.count == 17 && pooled.pool.entries[16].depot == 3);
     pool = pooled.pool;
     pool.entries[16].depot = 1;
-    EXPECT(ledger_pool_order(genesis, n, now, c->bytes, sizeof c->bytes, c->length, pool, order, 0).refusal == LEDGER_BAD_POOL);
+    EXPECT(ledger_add_order(genesis, n, now, c->bytes, sizeof c->bytes, c->length, pool, order, 0).refusal == LEDGER_BAD_POOL);
     pool.entries[16].depot = LEDGER_DEPOTS;
-    EXPECT(ledger_pool_order(genesis, n, now, c->bytes, sizeof c->bytes, c->length, pool, order, 0).refusal == LEDGER_BAD_POOL);
+    EXPECT(ledger_add_order(genesis, n, now, c->bytes, sizeof c->bytes, c->length, pool, order, 0).refusal == LEDGER_BAD_POOL);
+    return 0;
+}
+
+/* Seen from slot 25, of two orders of slots 20 and 21 the first no longer counts: u is 5. Adding leaves it where it is, and does not apply it;
+   dropping takes it away, and leaves zeros. Both keep a bad pool as it came. */
+static int drops(const struct chain *c) {
+    const ledger_slot now = {25};
+    const uint8_t *genesis = c->genesis;
+    const size_t n = c->genesis_length;
+    const ledger_order order = {.display = 2, .expected = 43, .new_release = 44}, other = {.display = 2, .expected = 42, .new_release = 50};
+    ledger_pool pool;
+    memset(&pool, 0, sizeof pool);
+    pool.count = 2;
+    pool.entries[0] = (ledger_entry){.order = {.display = 2, .expected = 42, .new_release = 43}, .slot = {20}, .depot = 1};
+    pool.entries[1] = (ledger_entry){.order = {.display = 3, .expected = 0, .new_release = 1}, .slot = {21}, .depot = 2};
+    pool.entries[5].depot = 9;
+    EXPECT(ledger_add_order(genesis, n, now, c->bytes, sizeof c->bytes, c->length, pool, order, 3).refusal == LEDGER_BAD_OFFER);
+    ledger_pool_answer answer = ledger_add_order(genesis, n, now, c->bytes, sizeof c->bytes, c->length, pool, other, 3);
+    EXPECT(answer.refusal == 0 && answer.pool.count == 3 && same_entry(answer.pool.entries[0], pool.entries[0]));
+    EXPECT(same_entry(answer.pool.entries[2], (ledger_entry){.order = other, .slot = now, .depot = 3}) && answer.pool.entries[5].depot == 0);
+    answer = ledger_drop_entries(genesis, n, now, pool);
+    EXPECT(answer.refusal == 0 && answer.place.number == 0 && answer.pool.count == 1 && same_entry(answer.pool.entries[0], pool.entries[1]));
+    EXPECT(same_entry(answer.pool.entries[1], pool.entries[2]) && answer.pool.entries[5].depot == 0);
+    EXPECT(ledger_drop_entries(NULL, 0, now, pool).refusal == LEDGER_BAD_GENESIS);
+    EXPECT(ledger_drop_entries(genesis, n, (ledger_slot){257}, pool).refusal == LEDGER_BAD_CLOCK);
+    answer = ledger_drop_entries(genesis, n, (ledger_slot){20}, pool);
+    EXPECT(answer.refusal == LEDGER_BAD_POOL && answer.place.number == 0 && same_pool(&answer.pool, &pool));
     return 0;
 }
 
@@ -351,8 +378,8 @@ static int nothing_held(const struct chain *c) {
     ledger_order order = {.display = 2, .expected = 40, .new_release = 41};
     ledger_signature sign;
     memset(&sign, 0x51, sizeof sign);
-    EXPECT(ledger_pool_order(NULL, 0, now, NULL, 0, 0, pool, order, 0).refusal == LEDGER_BAD_GENESIS);
-    EXPECT(ledger_pool_order(genesis, n, now, NULL, 0, 0, pool, order, 0).pool.count == 1);
+    EXPECT(ledger_add_order(NULL, 0, now, NULL, 0, 0, pool, order, 0).refusal == LEDGER_BAD_GENESIS);
+    EXPECT(ledger_add_order(genesis, n, now, NULL, 0, 0, pool, order, 0).pool.count == 1);
     EXPECT(ledger_draft(NULL, 0, now, NULL, 0, 0, pool, 2, sign, NULL, 0).refusal == LEDGER_BAD_GENESIS);
     EXPECT(ledger_draft(genesis, n, now, NULL, 0, 0, pool, 2, sign, NULL, 0).refusal == LEDGER_SHORT_BUFFER);
     EXPECT(ledger_draft(genesis, n, now, NULL, 0, 0, pool, 2, sign, out, sizeof out).length == 32 + 1 + 1 + 64);
@@ -373,6 +400,6 @@ int main(void) {
     const int lines[] = {numbers(),        large_numbers(), digests(),            tables(),        blocks(),
                          large_releases(), a_large_start(), checks(&chain),       adopts(&chain),  issues(&chain),
                          nothing_lent(),   reports(&chain), large_orders(&chain), nothing_delivered(&chain),
-                         nothing_held(&chain), depots(&chain)};
+                         nothing_held(&chain), depots(&chain), drops(&chain)};
     return exit_status("every_call.c", lines, sizeof lines / sizeof *lines);
 }

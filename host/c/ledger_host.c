@@ -202,7 +202,7 @@ static const struct {
     {"TOO_LONG", "a delivered chain has more than 64,256 bytes, or what is to be digested more than 65,536"},
     {"BAD_HELD", "the held chain is bad: put its length to 0 and take the next whole chain"},
     {"BAD_POOL", "the order pool is bad: empty it"},
-    [LEDGER_DEPOT_FULL] = {"DEPOT_FULL", "the depot has 16 counting entries in the order pool"},
+    [LEDGER_DEPOT_FULL] = {"DEPOT_FULL", "the depot has 16 entries in the order pool"},
 };
 
 static bool known(uint32_t refusal) { return refusal < sizeof refusals / sizeof *refusals && refusals[refusal].name != NULL; }

@@ -50,11 +50,18 @@ static void deliver(ledger_slot now) {
     printf("slot %" PRIu32 ": adopts %zu bytes and holds %" PRIu32 " blocks\n", now.number, adopted.length, adopted.count.number);
 }
 
+/* The pool that is answered takes the old one's place, on a refusal too: then it is the old one. */
+static ledger_pool_answer clear(controller *c, ledger_slot now) {
+    ledger_pool_answer dropped = ledger_drop_entries(genesis, genesis_length, now, c->pool);
+    c->pool = dropped.pool;
+    return dropped;
+}
+
 static ledger_pool_answer offer(controller *to, ledger_slot now, uint64_t expected, uint64_t new_release) {
     ledger_order order = {.display = DISPLAY, .expected = expected, .new_release = new_release};
-    ledger_pool_answer pooled = ledger_pool_order(genesis, genesis_length, now, to->held, sizeof to->held, to->length, to->pool, order, DEPOT);
-    to->pool = pooled.pool;
-    return pooled;
+    ledger_pool_answer added = ledger_add_order(genesis, genesis_length, now, to->held, sizeof to->held, to->length, to->pool, order, DEPOT);
+    to->pool = added.pool;
+    return added;
 }
 
 /* The block of a controller whose turn it is. */
@@ -126,8 +133,8 @@ static void restart(ledger_slot now) {
 /* Slots 1 to 3: one damaged byte in the held chain. Every delivery is refused, until the length is 0. */
 static void damaged_chain(void) {
     ledger_slot now = {1};
-    ledger_pool_answer pooled = offer(&others, now, 7, 8);
-    accepted("pool", pooled.refusal, pooled.place);
+    ledger_pool_answer added = offer(&others, now, 7, 8);
+    accepted("add", added.refusal, added.place);
     append(&others, 1, now);
     now.number = 2;
     deliver(now);
@@ -145,17 +152,19 @@ static void damaged_chain(void) {
     append(&others, 3, now);
 }
 
-/* Slot 4: a damaged pool. An order is refused, until the pool is empty. */
+/* Slot 4: a damaged pool. It can't be cleared, and an order is refused, until the pool is empty. */
 static void damaged_pool(void) {
     ledger_slot now = {4};
     deliver(now);
     told(now, "its pool is damaged");
     six.pool.count = LEDGER_POOL_ROOM + 1;
-    ledger_pool_answer pooled = offer(&six, now, 8, 9);
-    refused(now, "pool", pooled.refusal, pooled.place);
+    ledger_pool_answer answer = clear(&six, now);
+    refused(now, "drop", answer.refusal, answer.place);
+    answer = offer(&six, now, 8, 9);
+    refused(now, "add", answer.refusal, answer.place);
     empty_pool(now);
-    pooled = offer(&six, now, 8, 9);
-    accepted("pool", pooled.refusal, pooled.place);
+    answer = offer(&six, now, 8, 9);
+    accepted("add", answer.refusal, answer.place);
     store();
     told(now, "pools an order");
     append(&others, 4, now);

@@ -33,12 +33,20 @@ static void deliver(controller *to, const controller *from, ledger_slot now) {
                ledger_refusal_words(adopted.refusal));
 }
 
-/* The pool that comes back takes the old one's place. */
+/* Orders that no longer count are dropped. A host does this in each slot, or as here before it adds one. The pool that comes back takes the old one's
+   place, whatever becomes of the order. */
+static void clear(controller *c, ledger_slot now) {
+    ledger_pool_answer dropped = ledger_drop_entries(genesis, genesis_length, now, c->pool);
+    accepted("drop", dropped.refusal, dropped.place);
+    c->pool = dropped.pool;
+}
+
 static void offer(controller *to, ledger_slot now, uint64_t expected, uint64_t new_release) {
     ledger_order order = {.display = DISPLAY, .expected = expected, .new_release = new_release};
-    ledger_pool_answer pooled = ledger_pool_order(genesis, genesis_length, now, to->held, sizeof to->held, to->length, to->pool, order, DEPOT);
-    accepted("pool", pooled.refusal, pooled.place);
-    to->pool = pooled.pool;
+    clear(to, now);
+    ledger_pool_answer added = ledger_add_order(genesis, genesis_length, now, to->held, sizeof to->held, to->length, to->pool, order, DEPOT);
+    accepted("add", added.refusal, added.place);
+    to->pool = added.pool;
     line(to, now);
     printf("pools display %d from %" PRIu64 " to %" PRIu64 "\n", DISPLAY, expected, new_release);
 }

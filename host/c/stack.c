@@ -68,7 +68,8 @@ static void choose(void) { refusal = ledger_choose(G, now, held, sample.first, s
 static void adopt(void) {
     refusal = ledger_adopt(G, now, held, sizeof held, sample.first, sample.bytes, sample.length, good, 2).refusal;
 }
-static void pool_order(void) { refusal = ledger_pool_order(G, now, HELD, pool, order, 0).refusal; }
+static void drop_entries(void) { refusal = ledger_drop_entries(G, now, pool).refusal; }
+static void add_order(void) { refusal = ledger_add_order(G, now, HELD, pool, order, 0).refusal; }
 static void draft(void) { refusal = ledger_draft(G, now, HELD, pool, 2, signature, out, sizeof out).refusal; }
 static void block_text(void) { refusal = ledger_block_text(G, now, HELD, pool, 2, signature, out, sizeof out).refusal; }
 static void append(void) { refusal = ledger_append(G, now, HELD, pool, 2, signature, signature).refusal; }
@@ -95,7 +96,8 @@ static const struct call calls[] = {
     CALL(read_number, READ_NUMBER), CALL(write_number, WRITE_NUMBER), CALL(digest, DIGEST), CALL(read_genesis, READ_GENESIS),
     CALL(find_key, FIND_KEY), CALL(turn, TURN), CALL(depth, DEPTH), CALL(read_block, READ_BLOCK), CALL(write_block, WRITE_BLOCK),
     CALL(slot_text, SLOT_TEXT), CALL(walk_step, WALK_STEP), CALL(check, CHECK), CALL(choose, CHOOSE), CALL(adopt, ADOPT),
-    CALL(pool_order, POOL_ORDER), CALL(draft, DRAFT), CALL(block_text, BLOCK_TEXT), CALL(append, APPEND), CALL(report, REPORT),
+    CALL(drop_entries, DROP_ENTRIES), CALL(add_order, ADD_ORDER), CALL(draft, DRAFT), CALL(block_text, BLOCK_TEXT), CALL(append, APPEND),
+    CALL(report, REPORT),
     CALL(verdicts, VERDICTS), CALL(adopt_verified, ADOPT_VERIFIED), CALL(chain_verifies, CHAIN_VERIFIES), CALL(issue, ISSUE),
 };
 
@@ -139,7 +141,7 @@ static void make_sample(void) {
     memcpy(held, sample.bytes, sample.length);
     table = ledger_read_genesis(G).table;
     block = block_after(G, 1, 40);
-    pool = ledger_pool_order(G, now, HELD, pool, order, 0).pool;
+    pool = ledger_add_order(G, now, HELD, pool, order, 0).pool;
     order = (ledger_order){.display = 2, .expected = 43, .new_release = 44};
 }
 

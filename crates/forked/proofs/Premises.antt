@@ -16,7 +16,7 @@ use Rattle.chain.proofs.Theorems.{what-is-written-of-blocks-is-bytes, bytes-at-
 use Rattle.agreement.specs.Core.{howMany}
 use Rattle.pool.specs.Pool.{room}
 use Rattle.runs.proofs.Among.{among-each, nowhere, the-only}
-use Rattle.runs.specs.Runs.{Event, delivery, offer, correct, afterSlot, holds, issued, Among, Encounter, in-delivery, as-held, as-issued, InRun, OfRun, Typed, LastOf, Premises}
+use Rattle.runs.specs.Runs.{Event, delivery, pooling, correct, afterSlot, holds, issued, Among, Encounter, in-delivery, as-held, as-issued, InRun, OfRun, Typed, LastOf, Premises}
 use Rattle.forked.specs.Forked.{table, next, other, chain, given, verdicts, events, run}
 use Rattle.forked.proofs.Blocks.{signed, sealed, Named, in-turn, forked, Good, chain-good, given-good}
 use Rattle.forked.proofs.Held.{reads, full, buffer-bytes, three, held-in-slot, issued-in-slot}
@@ -25,11 +25,11 @@ use Rattle.forked.proofs.Different.{one-digest-one-block, not-the-genes
 -- ---- what is delivered
 bytesOf : Event → List ℕ
 bytesOf (delivery bytes v) = bytes
-bytesOf (offer order depot) = []
+bytesOf (pooling p) = []
 
 verdictsOf : Event → List ℕ
 verdictsOf (delivery bytes v) = v
-verdictsOf (offer order depot) = []
+verdictsOf (pooling p) = []
 
 -- what a controller meets in slot k + 2
 met-in-slot : (e : Event) (i k : ℕ) → Among e (events i (suc (suc k))) → e ≡ delivery (chainBytes (given i k)) verdicts

@@ -89,7 +89,7 @@ run = record {
   lent = λ i. buffer;
   pools = λ i. poolOf [];
   events = events;
-  offers = λ i slot. [];
+  poolings = λ i slot. [];
   signature = λ i slot. signature;
   seal = λ i slot. seal;
   -- no block of the run is badly signed

@@ -6,7 +6,7 @@ use order::Order;
 use order::Slot;
 use pool::Pool;
 ghost use mathlib.Core.Path.{_≡_};
-ghost use Rattle.pool.specs.Pool.{offered};
+ghost use Rattle.pool.specs.Pool.{added, dropped};
 ghost use Rattle.issue.specs.Issue as spec;
 ghost use Rattle.ledger.specs.Answers.{poolAnswer, issueAnswer};
 
@@ -15,7 +15,7 @@ pub struct Signature {
     pub bytes: [u8; 64],
 }
 
-// The pool as it then is: as it came where the order was refused.
+// The pool as it then is: as it came where the call was refused.
 #[repr(C)]
 pub struct PoolAnswer {
     pub refusal: u32,
@@ -32,7 +32,21 @@ pub struct IssueAnswer {
 }
 
 #[no_mangle]
-pub extern "C" fn ledger_pool_order(
+pub extern "C" fn ledger_drop_entries(genesis: &[u8], clock: Slot, pool: Pool) -> PoolAnswer
+    ensures { λ r. ⌜ r ≡ poolAnswer pool (dropped (now (genesis .entry)) (clock .0) pool) ⌝ }
+{
+    let pooled = pool::drop(genesis, clock, pool);
+    let answer = pooled.answer;
+    let after = pooled.pool;
+    PoolAnswer {
+        refusal: number_of(answer),
+        place: place_of(answer),
+        pool: after,
+    }
+}
+
+#[no_mangle]
+pub extern "C" fn ledger_add_order(
     genesis: &[u8],
     clock: Slot,
     held: &[u8],
@@ -41,11 +55,11 @@ pub extern "C" fn ledger_pool_order(
     order: Order,
     depot: u32,
 ) -> PoolAnswer
-    ensures { λ r. ⌜ r ≡ poolAnswer pool (offered (now (genesis .entry)) (clock .0) (now (held .entry)) length pool order depot) ⌝ }
+    ensures { λ r. ⌜ r ≡ poolAnswer pool (added (now (genesis .entry)) (clock .0) (now (held .entry)) length pool order depot) ⌝ }
 {
-    let offered = pool::offer(genesis, clock, held, length, pool, order, depot);
-    let answer = offered.answer;
-    let after = offered.pool;
+    let pooled = pool::add(genesis, clock, held, length, pool, order, depot);
+    let answer = pooled.answer;
+    let after = pooled.pool;
     PoolAnswer {
         refusal: number_of(answer),
         place: place_of(answer),

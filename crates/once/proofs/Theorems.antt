@@ -84,8 +84,10 @@ use Rattle.ledger.proofs.ledger_draft.Kinds as ledger-draft-kinds
 use Rattle.ledger.proofs.ledger_draft.Reads as ledger-draft
 use Rattle.ledger.proofs.ledger_find_key.Kinds as ledger-find-key-kinds
 use Rattle.ledger.proofs.ledger_find_key.Reads as ledger-find-key
-use Rattle.ledger.proofs.ledger_pool_order.Kinds as ledger-pool-order-kinds
-use Rattle.ledger.proofs.ledger_pool_order.Reads as ledger-pool-order
+use Rattle.ledger.proofs.ledger_drop_entries.Kinds as ledger-drop-entries-kinds
+use Rattle.ledger.proofs.ledger_drop_entries.Reads as ledger-drop-entries
+use Rattle.ledger.proofs.ledger_add_order.Kinds as ledger-add-order-kinds
+use Rattle.ledger.proofs.ledger_add_order.Reads as ledger-add-order
 use Rattle.ledger.proofs.ledger_read_block.Kinds as ledger-read-block-kinds
 use Rattle.ledger.proofs.ledger_read_block.Reads as ledger-read-block
 use Rattle.ledger.proofs.ledger_read_genesis.Kinds as ledger-read-genesis-kinds
@@ -131,13 +133,15 @@ use Rattle.order.proofs.take.Kinds as order-take-an-order-kinds
 use Rattle.order.proofs.take.Reads as order-take-an-order
 use Rattle.order.proofs.valid.Kinds as order-valid-kinds
 use Rattle.order.proofs.valid.Reads as order-valid
-use Rattle.pool.proofs.Answers.{offered-faithful}
+use Rattle.pool.proofs.Answers.{pooled-faithful}
 use Rattle.pool.proofs.counting.Kinds as pool-counting-kinds
 use Rattle.pool.proofs.counting.Reads as pool-counting
 use Rattle.pool.proofs.fits.Kinds as pool-fits-kinds
 use Rattle.pool.proofs.fits.Reads as pool-fits
-use Rattle.pool.proofs.offer.Kinds as pool-offer-kinds
-use Rattle.pool.proofs.offer.Reads as pool-offer
+use Rattle.pool.proofs.drop.Kinds as pool-drop-kinds
+use Rattle.pool.proofs.drop.Reads as pool-drop
+use Rattle.pool.proofs.add.Kinds as pool-add-kinds
+use Rattle.pool.proofs.add.Reads as pool-add
 use Rattle.pool.proofs.take.Kinds as pool-take-kinds
 use Rattle.pool.proofs.take.Reads as pool-take
 use Rattle.printed.proofs.station.Kinds as printed-station-kinds
@@ -333,8 +337,11 @@ counting-answers-once κs a x y s t p q = p ∙ sym q
 pub take-answers-once : OneAnswer 0 pool-take-kinds.ps pool-take-kinds.r pool-take.Post
 take-answers-once κs a x y s t p q = p ∙ sym q
 
-pub offer-answers-once : OneAnswer 2 pool-offer-kinds.ps pool-offer-kinds.r pool-offer.Post
-offer-answers-once κs a x y s t p q = offered-faithful x y (paired (p .0 ∙ sym (q .0)) (p .1 ∙ sym (q .1)))
+pub drop-answers-once : OneAnswer 1 pool-drop-kinds.ps pool-drop-kinds.r pool-drop.Post
+drop-answers-once κs a x y s t p q = pooled-faithful x y (paired (p .0 ∙ sym (q .0)) (p .1 ∙ sym (q .1)))
+
+pub add-answers-once : OneAnswer 2 pool-add-kinds.ps pool-add-kinds.r pool-add.Post
+add-answers-once κs a x y s t p q = pooled-faithful x y (paired (p .0 ∙ sym (q .0)) (p .1 ∙ sym (q .1)))
 
 -- ---- issue
 pub draft-answers-once : OneAnswer 3 issue-draft-kinds.ps issue-draft-kinds.r issue-draft.Post
@@ -424,8 +431,11 @@ ledger-adopt-answers-once κs a x y s t p q = p .0 ∙ sym (q .0)
 pub ledger-adopt-leaves-the-held-buffer-once : OneLater 4 ledger-adopt-kinds.ps ledger-adopt-kinds.r ledger-adopt.Post (λ κs s. now (s .1 .1 .0))
 ledger-adopt-leaves-the-held-buffer-once κs a x y s t p q = p .1 ∙ sym (q .1)
 
-pub ledger-pool-order-answers-once : OneAnswer 2 ledger-pool-order-kinds.ps ledger-pool-order-kinds.r ledger-pool-order.Post
-ledger-pool-order-answers-once κs a x y s t p q = p ∙ sym q
+pub ledger-drop-entries-answers-once : OneAnswer 1 ledger-drop-entries-kinds.ps ledger-drop-entries-kinds.r ledger-drop-entries.Post
+ledger-drop-entries-answers-once κs a x y s t p q = p ∙ sym q
+
+pub ledger-add-order-answers-once : OneAnswer 2 ledger-add-order-kinds.ps ledger-add-order-kinds.r ledger-add-order.Post
+ledger-add-order-answers-once κs a x y s t p q = p ∙ sym q
 
 pub ledger-draft-answers-once : OneAnswer 3 ledger-draft-kinds.ps ledger-draft-kinds.r ledger-draft.Post
 ledger-draft-answers-once κs a x y s t p q = p .0 ∙ sym (q .0)

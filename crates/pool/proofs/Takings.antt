@@ -1,25 +1,27 @@
 -- What is taken of orders: no more than asked for, each valid where it stands, and in its range if the pool fits.
 -- Assumes nothing.
-use mathlib.Core.Path.{_≡_, refl, _∙_}
+use mathlib.Core.Path.{_≡_, refl, ap, _∙_}
 use mathlib.Core.Bool.{Bool, true, false}
 use mathlib.Core.List.{List, [], _∷_, _++_}
 use Prim.Native.Nat.{ℕ, _<_, _≤_, zero-le}
 use native.Mathlib.Omega.{arith}
 use lib.Dec.{ltb, leb}
-use lib.ListN.{length, length-append}
-use borrow.Author.Tests.{ltb-true}
+use lib.ListN.{length, length-append, take}
+use lib.Seq.{take-all, length-take-le}
+use borrow.Author.Tests.{ltb-true, leb-true}
 use Rattle.laws.specs.Pick.{pick}
 use Rattle.laws.specs.Told.{gives, then, unless}
 use Rattle.laws.specs.Every.{both, within, every}
 use Rattle.laws.specs.Fold.{folded}
 use Rattle.laws.specs.Format.{Each}
+use Rattle.laws.proofs.Cases.{lt-cases}
 use Rattle.laws.proofs.Every.{both-true}
 use Rattle.laws.proofs.Each.{each-append, each-weaker, each-those, every-each}
 use Rattle.order.specs.Order.{orderInRange, valid, applied, obeyed}
 use Rattle.order.specs.declared.Order.{Order}
 use Rattle.chain.specs.declared.Opened.{Opened}
 use Rattle.chain.specs.declared.Summary.{Summary}
-use Rattle.pool.specs.Pool.{room, depots, entriesIn, entryFits, entriesFit, sharesFit, poolFits, counts, counting, ordersOf, Taking, takeOne, taking}
+use Rattle.pool.specs.Pool.{room, depots, entriesIn, entryFits, entriesFit, sharesFit, presentFits, poolFits, counts, counting, ordersOf, Taking, takeOne, taking}
 use Rattle.pool.specs.declared.Entry.{Entry}
 use Rattle.pool.specs.declared.Pool.{Pool}
 
@@ -89,22 +91,32 @@ each-orders : (l : List Entry) → Each (λ e. orderInRange (e .order) ≡ true)
 each-orders [] each = tt
 each-orders (e ∷ l) (here, rest) = (here, each-orders l rest)
 
-module _ (o : Opened) (held : Summary) (p : Pool) (fits : poolFits o held p ≡ true) where
-  entries-fit : Each (λ e. entryFits (o .clock .0) e ≡ true) (entriesIn p)
-  entries-fit =
-      let (entries, _) = both-true (entriesFit (o .clock .0) p) (sharesFit (counting o held p)) fits in
-      let (_, every-one) = both-true (leb (p .count) room) (every (entryFits (o .clock .0)) (entriesIn p)) entries in
-      every-each (entryFits (o .clock .0)) (entriesIn p) every-one
+pub taken-few : {A : Type 0} (n : ℕ) (l : List A) → length (take n l) ≤ n
+taken-few n l = lt-cases (length l) n (λ less. omega (arith, ap length (take-all n l (omega arith)))) (λ more. omega (arith, length-take-le n l more))
 
-  counting-fit : Each (λ e. entryFits (o .clock .0) e ≡ true) (counting o held p)
-  counting-fit = each-those (λ e. entryFits (o .clock .0) e ≡ true) (counts o held) (entriesIn p) entries-fit
+pub entries-parts : (clock : ℕ) (p : Pool) → entriesFit clock p ≡ true → (p .count ≤ room) × Each (λ e. entryFits clock e ≡ true) (entriesIn p)
+entries-parts clock p fits =
+    let (few, all) = both-true (leb (p .count) room) (every (entryFits clock) (entriesIn p)) fits in
+    (leb-true (p .count) room few, every-each (entryFits clock) (entriesIn p) all)
+
+-- of a pool to which an order may be added
+module _ (clock : ℕ) (p : Pool) (fits : presentFits clock p ≡ true) where
+  pub present-known : Each (λ e. e .depot < depots) (entriesIn p)
+  present-known =
+      let (entries, _) = both-true (entriesFit clock p) (sharesFit (entriesIn p)) fits in
+      each-weaker (λ e fine. entry-parts clock e fine .1) (entriesIn p) (entries-parts clock p entries .1)
+
+  pub present-shares : sharesFit (entriesIn p) ≡ true
+  present-shares = both-true (entriesFit clock p) (sharesFit (entriesIn p)) fits .1
+
+module _ (o : Opened) (held : Summary) (p : Pool) (fits : poolFits o held p ≡ true) where
+  pub counting-fit : Each (λ e. entryFits (o .clock .0) e ≡ true) (counting o held p)
+  counting-fit =
+      let (entries, _) = both-true (entriesFit (o .clock .0) p) (sharesFit (counting o held p)) fits in
+      each-those (λ e. entryFits (o .clock .0) e ≡ true) (counts o held) (entriesIn p) (entries-parts (o .clock .0) p entries .1)
 
   pub counting-in-range : Each (λ order. orderInRange order ≡ true) (ordersOf (counting o held p))
   counting-in-range = each-orders (counting o held p) (each-weaker (λ e fine. entry-parts (o .clock .0) e fine .0) (counting o held p) counting-fit)
-
-  -- each is some depot's, and no depot has more than its share
-  pub counting-known : Each (λ e. e .depot < depots) (counting o held p)
-  counting-known = each-weaker (λ e fine. entry-parts (o .clock .0) e fine .1) (counting o held p) counting-fit
 
   pub counting-shares : sharesFit (counting o held p) ≡ true
   counting-shares = both-true (entriesFit (o .clock .0) p) (sharesFit (counting o held p)) fits .1

@@ -1,17 +1,22 @@
--- What a reader may take from this crate (02, d): "past the earlier refusals, 20 depends only on how many of the asker's own entries count, and .. 13
--- can no longer occur".
+-- What a reader may take from this crate. 02, d: "past the earlier refusals, 20 depends only on how many of the asker's own entries count, and .. 13 can
+-- no longer occur", of the call that adds, which counts all entries present. 02, i: "the first and then the second answer as the old call did, wherever
+-- that did not refuse".
 -- Assumes nothing.
 use Prim.Native.Nat.{ℕ, _<_, _≤_}
-use mathlib.Core.Path.{_≡_, refl}
+use mathlib.Core.Path.{_≡_, refl, ap, _∙_}
 use mathlib.Core.Bool.{Bool, true, false}
 use mathlib.Core.List.{List, [], _∷_, _++_}
 use native.Mathlib.Omega.{arith}
 use lib.Dec.{ltb, leb}
 use lib.ListN.{length, take}
-use borrow.Author.Tests.{le-ltb, lt-ltb, ltb-true}
+use borrow.Author.Tests.{le-ltb, lt-ltb, ltb-true, le-leb}
 use Rattle.laws.specs.Told.{Told, gives, refuses, then, unless, numberOf}
 use Rattle.laws.specs.Every.{both}
 use Rattle.laws.specs.Repeated.{repeated}
+use Rattle.laws.specs.Fold.{those}
+use Rattle.laws.proofs.Told.{gives-same, then-gives, unless-gives}
+use Rattle.laws.proofs.Each.{each-every}
+use Rattle.laws.proofs.Fold.{those-fewer}
 use Rattle.laws.proofs.Every.{both-true}
 use Rattle.number.specs.Number.{numberAt}
 use Rattle.order.specs.Order.{orderInRange, valid}
@@ -20,37 +25,88 @@ use Rattle.genesis.specs.Genesis.{headAt, tableAt, faulty, genesisOf, clockFits
 use Rattle.chain.specs.Chain.{longest, linkOf, opened, held, begun, passed, bad, heldChain, with, holding}
 use Rattle.chain.specs.declared.Opened.{Opened}
 use Rattle.chain.specs.declared.Summary.{Summary}
-use Rattle.pool.specs.Pool.{room, depots, depotRoom, poolOf, counting, ordersOf, shareOf, taking, poolFits, offerFits, joined, offered}
+use Rattle.pool.specs.Pool.{room, depots, depotRoom, poolOf, counting, ordersOf, shareOf, taking, entriesIn, entryFits, entriesFit, sharesFit, presentFits, poolFits, counts, offerFits, joined, added, dropped}
+use Rattle.pool.specs.Pooling.{offered}
+use Rattle.pool.specs.declared.Entry.{Entry}
 use Rattle.pool.specs.declared.Pool.{Pool}
 use Rattle.pool.proofs.Shares.{room-left}
-use Rattle.pool.proofs.Takings.{counting-known, counting-shares}
+use Rattle.pool.proofs.Takings.{taken-few, entries-parts, present-known, present-shares, counting-fit, counting-shares}
+use Rattle.pool.proofs.Joining.{entries-of, those-twice}
 
 -- past the refusals that come before 20: 1, 2, 17 (the call holds `h`), 18, 5 and 14
 pub record Past (genesis : List ℕ) (clock : ℕ) (buffer : List ℕ) (size : ℕ) (pool : Pool) (order : Order) (depot : ℕ) (h : Opened × Summary) : Type 0 where
   pub holds : holding genesis clock buffer size ≡ gives h
-  pub fits : poolFits (h .0) (h .1) pool ≡ true
+  pub fits : presentFits (h .0 .clock .0) pool ≡ true
   pub offer : offerFits order depot ≡ true
   pub good : valid (taking room (h .1 .whole .releases) (ordersOf (counting (h .0) (h .1) pool)) .releases) order ≡ true
 
 module _ (genesis : List ℕ) (clock : ℕ) (buffer : List ℕ) (size : ℕ) (pool : Pool) (order : Order) (depot : ℕ) (h : Opened × Summary)
     (past : Past genesis clock buffer size pool order depot h) where
-  -- how many of the asker's own entries count
+  -- how many of the entries present are the asker's own
   abbrev own : ℕ
-  own = shareOf depot (counting (h .0) (h .1) pool)
+  own = shareOf depot (entriesIn pool)
 
-  room-for-it : own < depotRoom → length (counting (h .0) (h .1) pool) < room
+  room-for-it : own < depotRoom → length (entriesIn pool) < room
   room-for-it less =
       let (_, known) = both-true (orderInRange order) (ltb depot depots) (past .offer) in
-      room-left (counting (h .0) (h .1) pool) depot (counting-known (h .0) (h .1) pool (past .fits)) (counting-shares (h .0) (h .1) pool (past .fits))
+      room-left (entriesIn pool) depot (present-known (h .0 .clock .0) pool (past .fits)) (present-shares (h .0 .clock .0) pool (past .fits))
       (ltb-true depot depots known) less
 
-  pub refused-with-20-if-sixteen-of-its-own-count : depotRoom ≤ own → offered genesis clock buffer size pool order depot ≡ refuses 20 0
-  refused-with-20-if-sixteen-of-its-own-count many = rw (past .holds, past .fits, past .offer, past .good, le-ltb own depotRoom many)
+  pub refused-with-20-if-sixteen-are-its-own : depotRoom ≤ own → added genesis clock buffer size pool order depot ≡ refuses 20 0
+  refused-with-20-if-sixteen-are-its-own many = rw (past .holds, past .fits, past .offer, past .good, le-ltb own depotRoom many)
 
-  pub taken-if-fewer-count : own < depotRoom
-      → offered genesis clock buffer size pool order depot
-      ≡ gives (poolOf (counting (h .0) (h .1) pool ++ (record { order = order; slot = h .0 .clock; depot = depot } ∷ [])))
-  taken-if-fewer-count less = rw (past .holds, past .fits, past .offer, past .good, lt-ltb own depotRoom less, lt-ltb _ room (room-for-it less))
+  pub taken-if-fewer-are : own < depotRoom
+      → added genesis clock buffer size pool order depot
+      ≡ gives (poolOf (entriesIn pool ++ (record { order = order; slot = h .0 .clock; depot = depot } ∷ [])))
+  taken-if-fewer-are less = rw (past .holds, past .fits, past .offer, past .good, lt-ltb own depotRoom less, lt-ltb _ room (room-for-it less))
+
+-- ---- the two calls, and the one that they were
+module _ (genesis : List ℕ) (clock : ℕ) (buffer : List ℕ) (size : ℕ) (pool : Pool) (order : Order) (depot : ℕ) (h : Opened × Summary)
+    (holds : holding genesis clock buffer size ≡ gives h) (fits : poolFits (h .0) (h .1) pool ≡ true) where
+  abbrev l : List Entry
+  l = counting (h .0) (h .1) pool
+
+  opens : opened genesis clock ≡ gives (h .0)
+  opens =
+      let (o, e, rest) = then-gives (opened genesis clock) _ h holds in
+      let (s, _, is) = then-gives (heldChain o buffer size) _ h rest in
+      e ∙ ap (λ (q : Opened × Summary). gives (q .0)) (gives-same is)
+
+  pub dropping-leaves-what-counts : dropped genesis clock pool ≡ gives (poolOf l)
+  dropping-leaves-what-counts = rw (opens, fits)
+
+  few : length l ≤ room
+  few =
+      let (entries, _) = both-true (entriesFit (h .0 .clock .0) pool) (sharesFit l) fits in
+      let some : length (entriesIn pool) ≤ room = omega (arith, taken-few (pool .count) (pool .entries), entries-parts (h .0 .clock .0) pool entries .0) in
+      omega (arith, those-fewer (counts (h .0) (h .1)) (entriesIn pool))
+
+  present : presentFits (h .0 .clock .0) (poolOf l) ≡ true
+  present =
+      rw (
+        le-leb (length l) room few,
+        entries-of l,
+        each-every (entryFits (h .0 .clock .0)) l (counting-fit (h .0) (h .1) pool fits),
+        counting-shares (h .0) (h .1) pool fits,
+      )
+
+  counted : counting (h .0) (h .1) (poolOf l) ≡ l
+  counted = ap (those (counts (h .0) (h .1))) (entries-of l) ∙ those-twice (counts (h .0) (h .1)) (entriesIn pool)
+
+  -- refusals past 18 too
+  pub and-then-adding-answers-as-pooling-did : added genesis clock buffer size (poolOf l) order depot ≡ offered genesis clock buffer size pool order depot
+  and-then-adding-answers-as-pooling-did = rw (holds, present, fits, counted, entries-of l)
+
+pub drop-and-then-add-answer-as-pooling-did : (genesis : List ℕ) (clock : ℕ) (buffer : List ℕ) (size : ℕ) (pool : Pool) (order : Order) (depot : ℕ) (after : Pool)
+    → offered genesis clock buffer size pool order depot ≡ gives after
+    → (cleared-pool : Pool) × (dropped genesis clock pool ≡ gives cleared-pool) × (added genesis clock buffer size cleared-pool order depot ≡ gives after)
+drop-and-then-add-answer-as-pooling-did genesis clock buffer size pool order depot after e =
+    let (h, holds, rest) = then-gives (holding genesis clock buffer size) _ after e in
+    let (fits, _) = unless-gives (poolFits (h .0) (h .1) pool) 18 0 _ after rest in (
+      poolOf (counting (h .0) (h .1) pool),
+      dropping-leaves-what-counts genesis clock buffer size pool order depot h holds fits,
+      and-then-adding-answers-as-pooling-did genesis clock buffer size pool order depot h holds fits ∙ e,
+    )
 
 -- ---- 13 can no longer occur
 abbrev Never : {A : Type 0} → Told A → Type 0
@@ -99,14 +155,14 @@ never-holding genesis clock buffer size =
     (λ o is. never-then (heldChain o buffer size) (λ s. gives (o, s)) (never-held o buffer size) (λ s holds e. absurd (omega arith)))
 
 module _ (genesis : List ℕ) (clock : ℕ) (buffer : List ℕ) (size : ℕ) (pool : Pool) (order : Order) (depot : ℕ) where
-  never-joined : (h : Opened × Summary) → holding genesis clock buffer size ≡ gives h → poolFits (h .0) (h .1) pool ≡ true
-      → Never (joined (h .0) (h .1) (counting (h .0) (h .1) pool) order depot)
+  never-joined : (h : Opened × Summary) → holding genesis clock buffer size ≡ gives h → presentFits (h .0 .clock .0) pool ≡ true
+      → Never (joined (h .0) (h .1) (counting (h .0) (h .1) pool) (entriesIn pool) order depot)
   never-joined h holds fits =
-      let l = counting (h .0) (h .1) pool in
+      let l = entriesIn pool in
       let last : Told Pool = gives (poolOf (l ++ (record { order = order; slot = h .0 .clock; depot = depot } ∷ []))) in
       let room-test : Told Pool = unless (ltb (length l) room) 13 0 last in
       let share-test : Told Pool = unless (ltb (shareOf depot l) depotRoom) 20 0 room-test in
-      let good-test : Bool = valid (taking room (h .1 .whole .releases) (ordersOf l) .releases) order in
+      let good-test : Bool = valid (taking room (h .1 .whole .releases) (ordersOf (counting (h .0) (h .1) pool)) .releases) order in
       never-unless (offerFits order depot) 5 (unless good-test 14 0 share-test) (λ e. absurd (omega arith))
       (λ offer.
       never-unless good-test 14 share-test (λ e. absurd (omega arith))
@@ -117,11 +173,11 @@ module _ (genesis : List ℕ) (clock : ℕ) (buffer : List ℕ) (size : ℕ) (po
       let there : ltb (length l) room ≡ true = lt-ltb _ room (room-for-it genesis clock buffer size pool order depot h past (ltb-true _ _ less)) in
       rw there (λ e. absurd (omega arith)))))
 
-  pub thirteen-never-occurs : numberOf (offered genesis clock buffer size pool order depot) ≡ 13 → ⊥
+  pub thirteen-never-occurs : numberOf (added genesis clock buffer size pool order depot) ≡ 13 → ⊥
   thirteen-never-occurs =
       never-then (holding genesis clock buffer size)
-      (λ h. unless (poolFits (h .0) (h .1) pool) 18 0 (joined (h .0) (h .1) (counting (h .0) (h .1) pool) order depot))
+      (λ h. unless (presentFits (h .0 .clock .0) pool) 18 0 (joined (h .0) (h .1) (counting (h .0) (h .1) pool) (entriesIn pool) order depot))
       (never-holding genesis clock buffer size)
       (λ h holds.
-      never-unless (poolFits (h .0) (h .1) pool) 18 (joined (h .0) (h .1) (counting (h .0) (h .1) pool) order depot)
+      never-unless (presentFits (h .0 .clock .0) pool) 18 (joined (h .0) (h .1) (counting (h .0) (h .1) pool) (entriesIn pool) order depot)
       (λ e. absurd (omega arith)) (λ fits. never-joined h holds fits))

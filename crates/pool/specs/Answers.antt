@@ -5,12 +5,12 @@ use Rattle.laws.specs.Told.{Told, givenOr}
 use Rattle.laws.specs.Tabulate.{tailed}
 use Rattle.refusal.specs.Answers.{toldAnswer}
 use Rattle.pool.specs.Pool.{Taking, room, noEntry}
-use Rattle.pool.specs.declared.Offered.{Offered}
+use Rattle.pool.specs.declared.Pooled.{Pooled}
 use Rattle.pool.specs.declared.Pool.{Pool}
 use Rattle.pool.specs.declared.Taken.{Taken}
 
-abbrev pub toldOffered : Offered → Told Pool
-toldOffered r = toldAnswer (r .pool) (r .answer)
+abbrev pub toldPooled : Pooled → Told Pool
+toldPooled r = toldAnswer (r .pool) (r .answer)
 
 -- a refusal leaves the pool as it came
 abbrev pub poolOr : Pool → Told Pool → Pool

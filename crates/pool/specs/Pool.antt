@@ -12,7 +12,7 @@ use Rattle.laws.specs.Fold.{folded, those}
 use Rattle.laws.specs.Tabulate.{tailed}
 use Rattle.order.specs.Order.{orderInRange, valid, applied}
 use Rattle.order.specs.declared.Order.{Order}
-use Rattle.chain.specs.Chain.{holding}
+use Rattle.chain.specs.Chain.{opened, begun, holding}
 use Rattle.chain.specs.declared.Opened.{Opened}
 use Rattle.chain.specs.declared.Summary.{Summary}
 use Rattle.pool.specs.declared.Entry.{Entry}
@@ -93,17 +93,29 @@ taking limit releases orders = folded (takeOne limit) (record { orders = []; rel
 abbrev pub offerFits : Order → ℕ → Bool
 offerFits order depot = both (orderInRange order) (ltb depot depots)
 
--- the pool after an order is offered to what counts: 5, 14, 20, 13
-abbrev pub joined : Opened → Summary → List Entry → Order → (depot : ℕ) → Told Pool
-joined o held entries order depot =
+-- the pool after an order is added: 5, 14, 20, 13. It is judged behind those that count, and it needs room beside all that are present
+abbrev pub joined : Opened → Summary → (counted present : List Entry) → Order → (depot : ℕ) → Told Pool
+joined o held counted present order depot =
     unless (offerFits order depot) 5 0
-    (unless (valid (taking room (held .whole .releases) (ordersOf entries) .releases) order) 14 0
-    (unless (ltb (shareOf depot entries) depotRoom) 20 0
-    (unless (ltb (length entries) room) 13 0
-    (gives (poolOf (entries ++ (record { order = order; slot = o .clock; depot = depot } ∷ [])))))))
+    (unless (valid (taking room (held .whole .releases) (ordersOf counted) .releases) order) 14 0
+    (unless (ltb (shareOf depot present) depotRoom) 20 0
+    (unless (ltb (length present) room) 13 0
+    (gives (poolOf (present ++ (record { order = order; slot = o .clock; depot = depot } ∷ [])))))))
 
--- 1, 2, 17, 18, 5, 14, 20, 13
-abbrev pub offered : (genesis : List ℕ) (clock : ℕ) (held : List ℕ) (size : ℕ) → Pool → Order → (depot : ℕ) → Told Pool
-offered genesis clock held size pool order depot =
+-- "its full-pool and depot checks are over all entries present": 18 of the call that adds
+abbrev pub presentFits : ℕ → Pool → Bool
+presentFits clock p = both (entriesFit clock p) (sharesFit (entriesIn p))
+
+-- 02, i: "the other only adds an order"; 1, 2, 17, 18, 5, 14, 20, 13
+abbrev pub added : (genesis : List ℕ) (clock : ℕ) (held : List ℕ) (size : ℕ) → Pool → Order → (depot : ℕ) → Told Pool
+added genesis clock held size pool order depot =
     then (holding genesis clock held size) λ h.
-    unless (poolFits (h .0) (h .1) pool) 18 0 (joined (h .0) (h .1) (counting (h .0) (h .1) pool) order depot)
+    unless (presentFits (h .0 .clock .0) pool) 18 0 (joined (h .0) (h .1) (counting (h .0) (h .1) pool) (entriesIn pool) order depot)
+
+-- "one call drops the entries that no longer count": 18
+abbrev pub cleared : Opened → Summary → Pool → Told Pool
+cleared o held p = unless (poolFits o held p) 18 0 (gives (poolOf (counting o held p)))
+
+-- 1, 2, 18
+abbrev pub dropped : (genesis : List ℕ) (clock : ℕ) → Pool → Told Pool
+dropped genesis clock pool = then (opened genesis clock) λ o. cleared o (begun o) pool

@@ -1,4 +1,5 @@
-// The order pool (01, "Pool an order"), in pieces: judge it, keep what counts, take what is valid, add a last entry.
+// The order pool (01, "Pool an order"; 02, d and i): drop what no longer counts, add an order. The pieces: judge it, keep what counts, take what is
+// valid, add a last entry.
 use chain::Opened;
 use chain::Summary;
 use order::BlockCount;
@@ -20,7 +21,7 @@ ghost use lib.ListN.{set};
 ghost use Rattle.laws.specs.Pick.{pick};
 ghost use Rattle.laws.specs.Told.{refuses};
 ghost use Rattle.pool.specs.Pool as spec;
-ghost use Rattle.pool.specs.Answers.{toldOffered, poolOr, takenOf};
+ghost use Rattle.pool.specs.Answers.{toldPooled, poolOr, takenOf};
 
 // How many entries a pool has room for.
 pub const ROOM: u32 = 64;
@@ -28,7 +29,7 @@ pub const ROOM: u32 = 64;
 // Depots are those below this number.
 pub const DEPOTS: u32 = 4;
 
-// How many counting entries a depot may have.
+// How many entries a depot may have: of those that count, and where an order is added of all.
 pub const DEPOT_ROOM: u32 = 16;
 
 #[repr(C)]
@@ -54,8 +55,8 @@ pub struct Taken {
     pub releases: [Release; 64],
 }
 
-// What pooling answers: the pool as it then is, which is as it came where the order was refused.
-pub struct Offered {
+// What dropping and adding answer: the pool as it then is, which is as it came where it was refused.
+pub struct Pooled {
     pub answer: Answer,
     pub pool: Pool,
 }
@@ -68,6 +69,16 @@ pub fn fits(opened: Opened, held: Summary, pool: Pool) -> bool
         return false;
     }
     shares_fit(counting(opened, held, pool))
+}
+
+// Whether an order may be added to a pool: as before, but every entry that is present takes room.
+fn present_fits(clock: Slot, pool: Pool) -> bool
+    ensures { λ r. ⌜ r ≡ spec.presentFits (clock .0) pool ⌝ }
+{
+    if !entries_fit(clock, pool) {
+        return false;
+    }
+    shares_fit(pool)
 }
 
 fn entries_fit(clock: Slot, pool: Pool) -> bool
@@ -217,8 +228,42 @@ pub fn take(pool: Pool, releases: [Release; 64], limit: u32) -> Taken
     }
 }
 
-// Offers an order to the pool.
-pub fn offer(
+// Drops the entries that no longer count.
+pub fn drop(genesis: &[u8], clock: Slot, pool: Pool) -> Pooled
+    ensures answer { λ r. ⌜ toldPooled r ≡ spec.dropped (now (genesis .entry)) (clock .0) pool ⌝ }
+    ensures pool { λ r. ⌜ r .pool ≡ poolOr pool (spec.dropped (now (genesis .entry)) (clock .0) pool) ⌝ }
+{
+    let opening = chain::open(genesis, clock);
+    let answer = opening.answer;
+    let opened = opening.opened;
+    match answer {
+        Answer::Refused(number, place) => refused(number, place, pool),
+        Answer::Good => {
+            // what counts does not hang on the held chain: the one of no blocks will do
+            let none = chain::held(opened, genesis, 0);
+            let summary = none.summary;
+            clear(opened, summary, pool)
+        }
+    }
+}
+
+// The entries that count, if the pool fits: 18.
+fn clear(opened: Opened, held: Summary, pool: Pool) -> Pooled
+    ensures { λ r. ⌜ toldPooled r ≡ spec.cleared opened held pool ⌝ }
+    ensures { λ r. ⌜ r .pool ≡ poolOr pool (spec.cleared opened held pool) ⌝ }
+{
+    if !fits(opened, held, pool) {
+        return refused(BAD_POOL, BlockCount(0), pool);
+    }
+    let kept = counting(opened, held, pool);
+    Pooled {
+        answer: Answer::Good,
+        pool: kept,
+    }
+}
+
+// Adds an order to the pool, and drops nothing.
+pub fn add(
     genesis: &[u8],
     clock: Slot,
     held: &[u8],
@@ -226,9 +271,9 @@ pub fn offer(
     pool: Pool,
     order: Order,
     depot: u32,
-) -> Offered
-    ensures answer { λ r. ⌜ toldOffered r ≡ spec.offered (now (genesis .entry)) (clock .0) (now (held .entry)) length pool order depot ⌝ }
-    ensures pool { λ r. ⌜ r .pool ≡ poolOr pool (spec.offered (now (genesis .entry)) (clock .0) (now (held .entry)) length pool order depot) ⌝ }
+) -> Pooled
+    ensures answer { λ r. ⌜ toldPooled r ≡ spec.added (now (genesis .entry)) (clock .0) (now (held .entry)) length pool order depot ⌝ }
+    ensures pool { λ r. ⌜ r .pool ≡ poolOr pool (spec.added (now (genesis .entry)) (clock .0) (now (held .entry)) length pool order depot) ⌝ }
 {
     let holding = chain::hold(genesis, clock, held, length);
     let answer = holding.answer;
@@ -237,29 +282,28 @@ pub fn offer(
     match answer {
         Answer::Refused(number, place) => refused(number, place, pool),
         Answer::Good => {
-            if !fits(opened, summary, pool) {
+            if !present_fits(opened.clock, pool) {
                 return refused(BAD_POOL, BlockCount(0), pool);
             }
-            let kept = counting(opened, summary, pool);
-            join(opened, summary, pool, kept, order, depot)
+            join(opened, summary, pool, order, depot)
         }
     }
 }
 
-fn refused(number: u32, place: BlockCount, pool: Pool) -> Offered
-    ensures { λ r. ⌜ (toldOffered r ≡ refuses number (place .0)) × (r .pool ≡ pool) ⌝ }
+fn refused(number: u32, place: BlockCount, pool: Pool) -> Pooled
+    ensures { λ r. ⌜ (toldPooled r ≡ refuses number (place .0)) × (r .pool ≡ pool) ⌝ }
 {
-    Offered {
+    Pooled {
         answer: Answer::Refused(number, place),
         pool,
     }
 }
 
-// An order behind the entries that count: 5, 14, 20. A pool that fits has room for the entry of a depot that has: 13 can't occur.
-fn join(opened: Opened, held: Summary, pool: Pool, kept: Pool, order: Order, depot: u32) -> Offered
-    requires { ⌜ (kept ≡ spec.poolOf (spec.counting opened held pool)) × (spec.poolFits opened held pool ≡ true) ⌝ }
-    ensures { λ r. ⌜ toldOffered r ≡ spec.joined opened held (spec.counting opened held pool) order depot ⌝ }
-    ensures { λ r. ⌜ r .pool ≡ poolOr pool (toldOffered r) ⌝ }
+// An order behind the entries that are present: 5, 14, 20. A depot with room in its share has room in the pool: 13 can't occur.
+fn join(opened: Opened, held: Summary, pool: Pool, order: Order, depot: u32) -> Pooled
+    requires { ⌜ spec.presentFits (opened .clock .0) pool ≡ true ⌝ }
+    ensures { λ r. ⌜ toldPooled r ≡ spec.joined opened held (spec.counting opened held pool) (spec.entriesIn pool) order depot ⌝ }
+    ensures { λ r. ⌜ r .pool ≡ poolOr pool (toldPooled r) ⌝ }
 {
     if !order::in_range(order) {
         return refused(OUT_OF_RANGE, BlockCount(0), pool);
@@ -269,24 +313,45 @@ fn join(opened: Opened, held: Summary, pool: Pool, kept: Pool, order: Order, dep
     }
     let whole = held.whole;
     let before = whole.releases;
+    let kept = counting(opened, held, pool);
     let taken = take(kept, before, ROOM);
     let releases = taken.releases;
     if !order::valid(&releases, order) {
         return refused(BAD_OFFER, BlockCount(0), pool);
     }
-    if DEPOT_ROOM <= of_depot(kept, depot) {
+    if DEPOT_ROOM <= of_depot(pool, depot) {
         return refused(DEPOT_FULL, BlockCount(0), pool);
     }
     let slot = opened.clock;
     let entry = Entry { order, slot, depot };
-    let joined = added(kept, entry);
-    Offered {
+    let joined = with_last(present(pool), entry);
+    Pooled {
         answer: Answer::Good,
         pool: joined,
     }
 }
 
-fn added(pool: Pool, entry: Entry) -> Pool
+// The entries within the count, with zeros behind them.
+fn present(pool: Pool) -> Pool
+    ensures { λ r. ⌜ r ≡ spec.poolOf (spec.entriesIn pool) ⌝ }
+{
+    let most = least(pool.count);
+    let all = pool.entries;
+    let none = none();
+    let mut entries = [none; 64];
+    let mut i = 0;
+    while i < most {
+        let entry = all[i];
+        entries[i] = entry;
+        i += 1;
+    }
+    Pool {
+        count: most as u32,
+        entries,
+    }
+}
+
+fn with_last(pool: Pool, entry: Entry) -> Pool
     requires { ⌜ pool .count < spec.room ⌝ }
     ensures { λ r. ⌜ r ≡ record { count = pool .count + 1; entries = set (pool .entries) (pool .count) entry } ⌝ }
 {

@@ -22,10 +22,10 @@ use Rattle.chain.specs.Blocks.{chainBytes, Admits, Accepted, Below}
 use Rattle.chain.specs.declared.Summary.{Summary}
 use Rattle.chain.proofs.Accepted.{admits-front}
 use Rattle.chain.proofs.Theorems.{blocks-that-follow-and-are-admitted-are-accepted, the-bytes-tell-the-blocks}
-use Rattle.runs.specs.Runs.{adopts, AdoptedOrEqualled, Node, Event, delivery, offer, afterEvent, Run, correct, Among, in-delivery, InRun, OfRun, Premises}
+use Rattle.runs.specs.Runs.{adopts, AdoptedOrEqualled, Node, Event, delivery, pooling, afterEvent, Run, correct, Among, in-delivery, InRun, OfRun, Premises}
 use Rattle.runs.proofs.Among.{each-among}
 use Rattle.runs.proofs.Nodes.{opening, Keeps, From, stayed, replaced, Met, met-delivery, good-answer}
-use Rattle.runs.proofs.Pools.{Pooled, pooled-offer}
+use Rattle.runs.proofs.Pools.{Pooled, pooled-then}
 use Rattle.runs.proofs.Valid.{Valid}
 
 -- a chain up to one of its blocks
@@ -157,11 +157,11 @@ module _ (r : Run) where
 
       meets-fine : (e : Event) → Among e (r .events i slot) → Grown (afterEvent (r .genesis) slot s e) blocks
       meets-fine (delivery bytes verdicts) among = delivery-fine bytes verdicts among
-      meets-fine (offer order depot) among = record {
+      meets-fine (pooling p) among = record {
         more = blocks;
         fine = record {
           keeps = f .keeps;
-          pooled = pooled-offer (r .genesis) slot (s .buffer) (s .size) (s .pool) order depot (f .pooled);
+          pooled = pooled-then (r .genesis) slot s (f .pooled) p;
           of-run = f .of-run;
           verify = f .verify;
         };

@@ -1,4 +1,4 @@
--- One controller's pool: whatever it is offered, it never meets 18.
+-- One controller's pool: whatever is added to it, it never meets 18.
 -- Assumes nothing.
 use Prim.Native.Nat.{ℕ, _≤_}
 use mathlib.Core.Path.{_≡_, refl, sym, ap, _∙_, subst}
@@ -13,20 +13,22 @@ use Rattle.laws.specs.Every.{within, every}
 use Rattle.laws.specs.Format.{Each}
 use Rattle.laws.proofs.Told.{gives-same, then-gives, unless-gives}
 use Rattle.laws.proofs.Every.{both-true, within-true, within-here}
+use Rattle.laws.proofs.Fold.{those-fewer}
 use Rattle.laws.proofs.Each.{every-each, each-every, each-weaker, each-append, each-those}
 use Rattle.order.specs.Order.{orderInRange, valid}
 use Rattle.order.specs.declared.Order.{Order}
-use Rattle.chain.specs.Chain.{opened, heldChain, holding}
+use Rattle.chain.specs.Chain.{opened, begun, heldChain, holding}
 use Rattle.chain.specs.declared.Opened.{Opened}
 use Rattle.chain.specs.declared.Summary.{Summary}
-use Rattle.pool.specs.Pool.{room, depots, depotRoom, entriesIn, poolOf, entryFits, entriesFit, shareOf, sharesFit, poolFits, offerFits, counts, counting, ordersOf, taking, joined, offered}
+use Rattle.pool.specs.Pool.{room, depots, depotRoom, entriesIn, poolOf, entryFits, entriesFit, shareOf, sharesFit, poolFits, offerFits, counts, counting, ordersOf, taking, joined, cleared, presentFits}
 use Rattle.pool.specs.Answers.{poolOr}
 use Rattle.pool.specs.declared.Entry.{Entry}
 use Rattle.pool.specs.declared.Pool.{Pool}
 use Rattle.pool.proofs.Joining.{entries-of}
 use Rattle.pool.proofs.Shares.{fewer-fit, one-more-fits}
-use Rattle.pool.proofs.Takings.{entry-parts}
+use Rattle.pool.proofs.Takings.{entry-parts, entries-parts, taken-few}
 use Rattle.issue.proofs.Appended.{opened-link}
+use Rattle.runs.specs.Runs.{Node, Pooling, drop, add, pools}
 
 -- a pool that meets no 18, whatever counts of it: its entries fit, and no depot has more than its share of them all
 pub record Pooled (clock : ℕ) (pool : Pool) : Type 0 where
@@ -45,12 +47,6 @@ entry-later clock clock′ h e fits =
     let (low, high) = within-true 1 clock (e .slot .0) there in
     rw (order, lt-ltb (e .depot) depots known) (within-here 1 clock′ (e .slot .0) low (omega arith))
 
-entries-parts : (clock : ℕ) (pool : Pool) → entriesFit clock pool ≡ true
-    → (leb (pool .count) room ≡ true) × Each (λ e. entryFits clock e ≡ true) (entriesIn pool)
-entries-parts clock pool fits =
-    let (few, all) = both-true (leb (pool .count) room) (every (entryFits clock) (entriesIn pool)) fits in
-    (few, every-each (entryFits clock) (entriesIn pool) all)
-
 -- entries that fit, as a pool
 of-entries : (clock : ℕ) (l : List Entry) → length l ≤ room → Each (λ e. entryFits clock e ≡ true) l → sharesFit l ≡ true → Pooled clock (poolOf l)
 of-entries clock l few fit shares = record {
@@ -62,17 +58,18 @@ pub pooled-later : (clock clock′ : ℕ) (pool : Pool) → clock ≤ clock′ �
 pooled-later clock clock′ pool h pooled =
     let (few, fit) = entries-parts clock pool (pooled .entries) in
     record {
-      entries = rw few (each-every (entryFits clock′) (entriesIn pool) (each-weaker (entry-later clock clock′ h) (entriesIn pool) fit));
+      entries = rw (le-leb (pool .count) room few) (each-every (entryFits clock′) (entriesIn pool) (each-weaker (entry-later clock clock′ h) (entriesIn pool) fit));
       shares = pooled .shares;
     }
 
-joined-pooled : (o : Opened) (h : Summary) (l : List Entry) (order : Order) (depot : ℕ) (pool : Pool) → 1 ≤ o .clock .0
-    → Each (λ e. entryFits (o .clock .0) e ≡ true) l → sharesFit l ≡ true → joined o h l order depot ≡ gives pool → Pooled (o .clock .0) pool
-joined-pooled o h l order depot pool low fit shares e =
+-- one entry more
+joined-pooled : (o : Opened) (h : Summary) (counted l : List Entry) (order : Order) (depot : ℕ) (pool : Pool) → 1 ≤ o .clock .0
+    → Each (λ e. entryFits (o .clock .0) e ≡ true) l → sharesFit l ≡ true → joined o h counted l order depot ≡ gives pool → Pooled (o .clock .0) pool
+joined-pooled o h counted l order depot pool low fit shares e =
     let new : Entry = record { order = order; slot = o .clock; depot = depot } in
     let (offer, rest) = unless-gives (offerFits order depot) 5 0 _ pool e in
     let (ranged, known) = both-true (orderInRange order) (ltb depot depots) offer in
-    let (_, rest′) = unless-gives (valid (taking room (h .whole .releases) (ordersOf l) .releases) order) 14 0 _ pool rest in
+    let (_, rest′) = unless-gives (valid (taking room (h .whole .releases) (ordersOf counted) .releases) order) 14 0 _ pool rest in
     let (own, rest″) = unless-gives (ltb (shareOf depot l) depotRoom) 20 0 _ pool rest′ in
     let (less, is) = unless-gives (ltb (length l) room) 13 0 _ pool rest″ in
     subst (Pooled (o .clock .0)) (gives-same is)
@@ -82,26 +79,45 @@ joined-pooled o h l order depot pool low fit shares e =
     (rw (ranged, known) (within-here 1 (o .clock .0) (o .clock .0) low (omega arith)), tt))
     (one-more-fits l new shares (ltb-true (shareOf depot l) depotRoom own)))
 
-module _ (genesis : List ℕ) (clock : ℕ) (buffer : List ℕ) (size : ℕ) (pool : Pool) (order : Order) (depot : ℕ) (pooled : Pooled clock pool) where
-  offered-pooled : (after : Pool) → offered genesis clock buffer size pool order depot ≡ gives after → Pooled clock after
-  offered-pooled after e =
-      let (h, holds, rest) = then-gives (holding genesis clock buffer size) _ after e in
-      let (o, opens, rest′) = then-gives (opened genesis clock) _ h holds in
-      let (s, _, is) = then-gives (heldChain o buffer size) _ h rest′ in
-      let (_, fits, same) = opened-link genesis clock o opens in
-      let at : h .0 .clock .0 ≡ clock = sym (ap (λ q. q .0 .clock .0) (gives-same is)) ∙ same in
-      let (low, _) = within-true 1 256 (o .clock .0) fits in
-      let pooled′ : Pooled (h .0 .clock .0) pool = subst (λ (n : ℕ). Pooled n pool) (sym at) pooled in
-      let (_, fit) = entries-parts (h .0 .clock .0) pool (pooled′ .entries) in
-      let (_, join) = unless-gives (poolFits (h .0) (h .1) pool) 18 0 _ after rest in
-      subst (λ (n : ℕ). Pooled n after) at
-      (joined-pooled (h .0) (h .1) (counting (h .0) (h .1) pool) order depot after (omega (arith, at, same))
-      (each-those (λ e. entryFits (h .0 .clock .0) e ≡ true) (counts (h .0) (h .1)) (entriesIn pool) fit)
-      (fewer-fit (counts (h .0) (h .1)) (entriesIn pool) (pooled .shares)) join)
+-- or some fewer
+cleared-pooled : (o : Opened) (h : Summary) (pool after : Pool) → Pooled (o .clock .0) pool → cleared o h pool ≡ gives after → Pooled (o .clock .0) after
+cleared-pooled o h pool after pooled e =
+    let l = counting o h pool in
+    let (few, fit) = entries-parts (o .clock .0) pool (pooled .entries) in
+    let (_, is) = unless-gives (poolFits o h pool) 18 0 (gives (poolOf l)) after e in
+    subst (Pooled (o .clock .0)) (gives-same is)
+    (of-entries (o .clock .0) l (omega (arith, those-fewer (counts o h) (entriesIn pool), taken-few (pool .count) (pool .entries), few))
+    (each-those (λ e. entryFits (o .clock .0) e ≡ true) (counts o h) (entriesIn pool) fit) (fewer-fit (counts o h) (entriesIn pool) (pooled .shares)))
 
-  pub pooled-offer : Pooled clock (poolOr pool (offered genesis clock buffer size pool order depot))
-  pooled-offer = by-answer (offered genesis clock buffer size pool order depot) refl
+module _ (genesis : List ℕ) (clock : ℕ) (s : Node) (pooled : Pooled clock (s .pool)) where
+  -- the slot that a call is opened at
+  shown : (o : Opened) → opened genesis clock ≡ gives o → (1 ≤ o .clock .0) × (o .clock .0 ≡ clock)
+  shown o opens =
+      let (_, fits, same) = opened-link genesis clock o opens in
+      let (low, _) = within-true 1 256 (o .clock .0) fits in
+      (low, same)
+
+  given-pooled : (p : Pooling) (after : Pool) → pools genesis clock s p ≡ gives after → Pooled clock after
+  given-pooled drop after e =
+      let (o, opens, rest) = then-gives (opened genesis clock) _ after e in
+      let (_, same) = shown o opens in
+      subst (λ (n : ℕ). Pooled n after) same
+      (cleared-pooled o (begun o) (s .pool) after (subst (λ (n : ℕ). Pooled n (s .pool)) (sym same) pooled) rest)
+  given-pooled (add order depot) after e =
+      let (h, holds, rest) = then-gives (holding genesis clock (s .buffer) (s .size)) _ after e in
+      let (o, opens, rest′) = then-gives (opened genesis clock) _ h holds in
+      let (_, _, is) = then-gives (heldChain o (s .buffer) (s .size)) _ h rest′ in
+      let (low, same) = shown o opens in
+      let at : o .clock .0 ≡ h .0 .clock .0 = ap (λ q. q .0 .clock .0) (gives-same is) in
+      let there = subst (λ (n : ℕ). Pooled n (s .pool)) (sym same ∙ at) pooled in
+      let (_, join) = unless-gives (presentFits (h .0 .clock .0) (s .pool)) 18 0 _ after rest in
+      subst (λ (n : ℕ). Pooled n after) (sym at ∙ same)
+      (joined-pooled (h .0) (h .1) (counting (h .0) (h .1) (s .pool)) (entriesIn (s .pool)) order depot after (omega (arith, low, at))
+      (entries-parts (h .0 .clock .0) (s .pool) (there .entries) .1) (there .shares) join)
+
+  pub pooled-then : (p : Pooling) → Pooled clock (poolOr (s .pool) (pools genesis clock s p))
+  pooled-then p = by-answer (pools genesis clock s p) refl
     where
-      by-answer : (t : Told Pool) → offered genesis clock buffer size pool order depot ≡ t → Pooled clock (poolOr pool t)
-      by-answer (gives after) e = offered-pooled after e
+      by-answer : (t : Told Pool) → pools genesis clock s p ≡ t → Pooled clock (poolOr (s .pool) t)
+      by-answer (gives after) e = given-pooled p after e
       by-answer (refuses number place) e = pooled

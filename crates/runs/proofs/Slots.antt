@@ -22,9 +22,9 @@ use Rattle.chain.specs.Chain.{held, none}
 use Rattle.chain.specs.Blocks.{chainBytes, Below}
 use Rattle.chain.proofs.Theorems.{at-most-256-blocks}
 use Rattle.agreement.specs.Core.{Long}
-use Rattle.runs.specs.Runs.{Node, heldBytes, Event, adopts, AdoptedOrEqualled, delivery, offer, afterEvent, issues, Run, correct, afterIssuing, afterOffers, afterSlot, inSlot, issued, as-issued, InRun, OfRun, Premises}
+use Rattle.runs.specs.Runs.{Node, heldBytes, Event, adopts, AdoptedOrEqualled, delivery, Pooling, pooling, afterEvent, issues, Run, correct, afterIssuing, afterPoolings, afterSlot, inSlot, issued, as-issued, InRun, OfRun, Premises}
 use Rattle.runs.proofs.Nodes.{opening, Keeps, keeps-later}
-use Rattle.runs.proofs.Pools.{pooled-none, pooled-later, pooled-offer}
+use Rattle.runs.proofs.Pools.{pooled-none, pooled-later, pooled-then}
 use Rattle.runs.proofs.Issuing.{Issuer, block, still-accepted, keeps-one-more}
 use Rattle.runs.proofs.Valid.{blocksIn, the-blocks-in, Valid, setting}
 use Rattle.runs.proofs.Events.{Fine, fine-valid, Grown, events-fine, delivered-is-held, delivery-answer}
@@ -249,16 +249,15 @@ module _ (r : Run) (premises : Premises r) where
           own = λ mine. absurd (eqb-false (turn (r .table) slot) i e mine);
         }
 
-    offers-after : (before rest : List (Order × ℕ)) → r .offers i slot ≡ before ++ rest → (s : Node) → After s
-        → After (folded (λ node o. afterEvent (r .genesis) slot node (offer (o .0) (o .1))) s rest)
-    offers-after before [] e s f = f
-    offers-after before (order ∷ rest) e s f =
-        offers-after (before ++ (order ∷ [])) rest (e ∙ sym (append-assoc before (order ∷ []) rest)) (afterEvent (r .genesis) slot s (offer (order .0) (order .1)))
+    poolings-after : (rest : List Pooling) (s : Node) → After s → After (folded (λ node p. afterEvent (r .genesis) slot node (pooling p)) s rest)
+    poolings-after [] s f = f
+    poolings-after (p ∷ rest) s f =
+        poolings-after rest (afterEvent (r .genesis) slot s (pooling p))
         (record {
           blocks = f .blocks;
           fine = record {
             keeps = f .fine .keeps;
-            pooled = pooled-offer (r .genesis) slot (s .buffer) (s .size) (s .pool) (order .0) (order .1) (f .fine .pooled);
+            pooled = pooled-then (r .genesis) slot s (f .fine .pooled) p;
             of-run = f .fine .of-run;
             verify = f .fine .verify;
           };
@@ -266,8 +265,8 @@ module _ (r : Run) (premises : Premises r) where
           own = f .own;
         })
 
-    slot-after : After (afterOffers r i slot (afterIssuing r i slot (inSlot r i slot)))
-    slot-after = offers-after [] (r .offers i slot) refl (afterIssuing r i slot (inSlot r i slot)) issuing-after
+    slot-after : After (afterPoolings r i slot (afterIssuing r i slot (inSlot r i slot)))
+    slot-after = poolings-after (r .poolings i slot) (afterIssuing r i slot (inSlot r i slot)) issuing-after
 
     long-after : Long (setting r) slot (slot-after .blocks)
     long-after j good low below = omega (arith, at .long j good low below, slot-after .grown)

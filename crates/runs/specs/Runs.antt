@@ -19,7 +19,7 @@ use Rattle.chain.specs.Chain.{longest, linkOf}
 use Rattle.chain.specs.Blocks.{chainBytes}
 use Rattle.adopt.specs.Adopt.{accepted, adopted, adopting}
 use Rattle.adopt.specs.Answers.{sizeAndCountOr}
-use Rattle.pool.specs.Pool.{offered}
+use Rattle.pool.specs.Pool.{added, dropped}
 use Rattle.pool.specs.Answers.{poolOr}
 use Rattle.pool.specs.declared.Pool.{Pool}
 use Rattle.issue.specs.Issue.{front, writing, written, appendBytes}
@@ -36,14 +36,23 @@ pub record Node : Type 0 where
 abbrev pub heldBytes : Node → List ℕ
 heldBytes s = take (s .size) (s .buffer)
 
+-- what a host does with the pool: it drops what no longer counts, or adds an order
+pub data Pooling : Type 0 where
+  drop : Pooling
+  add : Order → (depot : ℕ) → Pooling
+
 pub data Event : Type 0 where
   delivery : (bytes verdicts : List ℕ) → Event
-  offer : Order → (depot : ℕ) → Event
+  pooling : Pooling → Event
 
--- an event is a call: adopt, or pool an order; what the call adopt tells, and what is kept then: the buffer, the length that is answered and the pool as
+-- an event is a call: adopt, drop or add; what the call adopt tells, and what is kept then: the buffer, the length that is answered and the pool as
 -- the call leaves them
 abbrev pub adopts : (genesis : List ℕ) (clock : ℕ) → Node → (bytes verdicts : List ℕ) → Told (ℕ × ℕ)
 adopts genesis clock s bytes verdicts = adopted (accepted genesis clock (s .buffer) (s .size) bytes verdicts) (s .buffer) bytes
+
+abbrev pub pools : (genesis : List ℕ) (clock : ℕ) → Node → Pooling → Told Pool
+pools genesis clock s drop = dropped genesis clock (s .pool)
+pools genesis clock s (add order depot) = added genesis clock (s .buffer) (s .size) (s .pool) order depot
 
 abbrev pub afterEvent : (genesis : List ℕ) (clock : ℕ) → Node → Event → Node
 afterEvent genesis clock s (delivery bytes verdicts) = record {
@@ -51,11 +60,7 @@ afterEvent genesis clock s (delivery bytes verdicts) = record {
   size = sizeAndCountOr (s .size) (adopts genesis clock s bytes verdicts) .0;
   pool = s .pool;
 }
-afterEvent genesis clock s (offer order depot) = record {
-  buffer = s .buffer;
-  size = s .size;
-  pool = poolOr (s .pool) (offered genesis clock (s .buffer) (s .size) (s .pool) order depot);
-}
+afterEvent genesis clock s (pooling p) = record { buffer = s .buffer; size = s .size; pool = poolOr (s .pool) (pools genesis clock s p) }
 
 -- issuing is the call append, with the signatures that the host gives: what it answers, and what is kept then
 abbrev pub appends : (genesis : List ℕ) (clock controller : ℕ) (signature seal : List ℕ) → Node → Told ℕ
@@ -80,10 +85,10 @@ pub record Run : Type 0 where
   -- the buffer that a controller's host lends, and the pool that it starts with
   pub lent : ℕ → List ℕ
   pub pools : ℕ → Pool
-  -- what a controller meets in a slot, in that order, before it issues, and the orders that it is offered after that: "Faulty ones may send anything, to
+  -- what a controller meets in a slot, in that order, before it issues, and what it does with its pool after that: "Faulty ones may send anything, to
   -- whom and when they like"
   pub events : (controller slot : ℕ) → List Event
-  pub offers : (controller slot : ℕ) → List (Order × ℕ)
+  pub poolings : (controller slot : ℕ) → List Pooling
   -- the signatures that its host gives in a slot: the slot's, and the block's
   pub signature : (controller slot : ℕ) → List ℕ
   pub seal : (controller slot : ℕ) → List ℕ
@@ -98,20 +103,20 @@ module _ (r : Run) where
   abbrev pub start : ℕ → Node
   start i = record { buffer = r .lent i; size = 0; pool = r .pools i }
 
-  -- "act in every slot: deliveries first", with offers between them as they come; "then issuing when it is their turn"; then more offers
+  -- "act in every slot: deliveries first", with the pool's calls between them as they come; "then issuing when it is their turn"; then more of these
   abbrev pub afterDeliveries : (i slot : ℕ) → Node → Node
   afterDeliveries i slot s = folded (afterEvent (r .genesis) slot) s (r .events i slot)
 
   abbrev pub afterIssuing : (i slot : ℕ) → Node → Node
   afterIssuing i slot s = pick (eqb (turn (r .table) slot) i) (issues (r .genesis) slot i (r .signature i slot) (r .seal i slot) s) s
 
-  abbrev pub afterOffers : (i slot : ℕ) → Node → Node
-  afterOffers i slot s = folded (λ node o. afterEvent (r .genesis) slot node (offer (o .0) (o .1))) s (r .offers i slot)
+  abbrev pub afterPoolings : (i slot : ℕ) → Node → Node
+  afterPoolings i slot s = folded (λ node p. afterEvent (r .genesis) slot node (pooling p)) s (r .poolings i slot)
 
   -- what it keeps when a slot has passed
   unfoldable pub afterSlot : (i slot : ℕ) → Node
   afterSlot i zero = start i
-  afterSlot i (suc slot) = afterOffers i (suc slot) (afterIssuing i (suc slot) (afterDeliveries i (suc slot) (afterSlot i slot)))
+  afterSlot i (suc slot) = afterPoolings i (suc slot) (afterIssuing i (suc slot) (afterDeliveries i (suc slot) (afterSlot i slot)))
 
   -- a controller in a slot after its deliveries, the chain that it holds then and what it reports
   abbrev pub inSlot : (i slot : ℕ) → Node
@@ -155,7 +160,7 @@ pub record OfRun (r : Run) (p : Parts) : Type 0 where
   pub fit : Each Fits blocks
   pub among : Among p blocks
 
--- what is handed to a correct controller's calls is of their types. Any order may be offered: one that can't be written is refused
+-- what is handed to a correct controller's calls is of their types. Any order may be added to a pool: one that can't be written is refused
 pub record Typed (r : Run) (i : ℕ) : Type 0 where
   pub buffer : Bytes (r .lent i)
   pub deliveries : (slot : ℕ) → InRun r slot → (bytes verdicts : List ℕ) → Among (delivery bytes verdicts) (r .events i slot) → Bytes bytes

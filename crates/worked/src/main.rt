@@ -102,7 +102,7 @@ fn answered(line: &[u8]) {
 fn answer(line: &[u8]) {
     let op = op_of(
         line,
-        b"valid 4 take 4 genesis 1 turn 2 depth 1 key 2 block 2 body 2 write 7 front 6 length 2 slot-text 2 walk 2 check 4 held 4 choose 5 adopt 6 offer 9 draft 8 text 8 append 8",
+        b"valid 4 take 4 genesis 1 turn 2 depth 1 key 2 block 2 body 2 write 7 front 6 length 2 slot-text 2 walk 2 check 4 held 4 choose 5 adopt 6 drop 3 add 9 draft 8 text 8 append 8",
     );
     let mut bytes = [0u8; STRINGS];
     let ends = fields::strings(line, &mut bytes);
@@ -114,7 +114,7 @@ fn answer(line: &[u8]) {
 fn op_of(line: &[u8], ops: &[u8]) -> usize {
     let op = field(line, 0);
     let mut i = 0;
-    while i < 21 {
+    while i < 22 {
         if fields::same(op, field(ops, 2 * i)) {
             if fields::readable(line, fields::place(ops, 2 * i + 1)) {
                 return i;
@@ -145,10 +145,11 @@ fn run_op(op: usize, line: &[u8], bytes: &[u8], ends: &[usize; 8], space: &mut [
         14 => chains::held(line, bytes, ends),
         15 => adoptions::choose(line, bytes, ends),
         16 => adoptions::adopt(line, bytes, ends, space),
-        17 => pools::offer(line, bytes, ends),
-        18 => issues::draft(line, bytes, ends, space),
-        19 => issues::text(line, bytes, ends, space),
-        20 => issues::append(line, first, space),
+        17 => pools::drop(line, bytes, ends),
+        18 => pools::add(line, bytes, ends),
+        19 => issues::draft(line, bytes, ends, space),
+        20 => issues::text(line, bytes, ends, space),
+        21 => issues::append(line, first, space),
         _ => print::text(b"bad line"),
     }
 }

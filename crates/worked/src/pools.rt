@@ -1,4 +1,4 @@
-// Orders offered to a pool: `offer`. What is printed ends with the pool as it then is, entries past its count that are not of zeros too.
+// Entries dropped from a pool, and orders added to it: `drop`, `add`. What is printed ends with the pool as it then is, entries past its count that are not of zeros too.
 use crate::blocks::print_order;
 use crate::fields;
 use crate::fields::string;
@@ -7,12 +7,21 @@ use crate::writes::order_of;
 use order::Order;
 use order::Slot;
 use pool::Entry;
-use pool::Offered;
 use pool::Pool;
+use pool::Pooled;
 
-// offer GENESIS NOW HELD LENGTH DISPLAY EXPECTED NEW DEPOT COUNT DISPLAY EXPECTED NEW SLOT DEPOT ..
-pub fn offer(line: &[u8], bytes: &[u8], ends: &[usize; 8]) {
-    print_offered(pool::offer(
+// drop GENESIS NOW COUNT DISPLAY EXPECTED NEW SLOT DEPOT ..
+pub fn drop(line: &[u8], bytes: &[u8], ends: &[usize; 8]) {
+    print_pooled(pool::drop(
+        string(bytes, ends, 1),
+        fields::slot(line, 2),
+        pool_of(fields::tail(line, 3)),
+    ));
+}
+
+// add GENESIS NOW HELD LENGTH DISPLAY EXPECTED NEW DEPOT COUNT DISPLAY EXPECTED NEW SLOT DEPOT ..
+pub fn add(line: &[u8], bytes: &[u8], ends: &[usize; 8]) {
+    print_pooled(pool::add(
         string(bytes, ends, 1),
         fields::slot(line, 2),
         string(bytes, ends, 3),
@@ -23,9 +32,9 @@ pub fn offer(line: &[u8], bytes: &[u8], ends: &[usize; 8]) {
     ));
 }
 
-fn print_offered(offered: Offered) {
-    let answer = offered.answer;
-    let pool = offered.pool;
+fn print_pooled(pooled: Pooled) {
+    let answer = pooled.answer;
+    let pool = pooled.pool;
     if !print::good(answer) {
         print::text(b" ");
     }

@@ -18,7 +18,7 @@ use Rattle.block.specs.Blocks.{blockIn, frontFits, slotText}
 use Rattle.walk.specs.Walk.{stepAt}
 use Rattle.chain.specs.Chain.{checked, judged, deliveredChain, heldChain, holding}
 use Rattle.adopt.specs.Adopt.{accepted, choice, adopted, adopting}
-use Rattle.pool.specs.Pool.{offered, taking}
+use Rattle.pool.specs.Pool.{poolOf, added, dropped, taking}
 use Rattle.pool.specs.Answers.{poolOr}
 use Rattle.issue.specs.Issue.{front, draftBytes, textBytes, appendBytes, writing, written as issued}
 use Rattle.report.specs.Report.{reported}
@@ -89,9 +89,13 @@ adopt =
     (ap (λ t. given (adopted (accepted-from (zeros 162) 0 first verdicts t) (zeros 162) first)) (opens 4 refl))
     (ap (λ t. given (adopted (accepted-from (zeros 162) 0 [] verdicts t) (zeros 162) [])) (opens 4 refl))
 
-pub offer : Rejected λ order. offered genesis 1 ([]) 0 noPool order 0
+pub drop : Rejected λ pool. dropped genesis 1 pool
+unfolding genesisOf numberAt readGroups
+drop = rejected _ noPool (record { count = 65; entries = noPool .entries }) refl refl
+
+pub add : Rejected λ order. added genesis 1 ([]) 0 noPool order 0
 unfolding genesisOf numberAt readGroups heldChain run taking
-offer = rejected _ (upgrade 7 8) (upgrade 7 7) refl refl
+add = rejected _ (upgrade 7 8) (upgrade 7 7) refl refl
 
 pub draft : Rejected λ controller. writing draftBytes (frontFor controller []) (zeros 98) 0
 unfolding front heldChain run taking frontBytes written groups
@@ -137,9 +141,13 @@ adopting-touches =
     touched _ (λ b. getD b 33 0) (zeros 162) 0 1 refl
     (ap (λ t. getD (adopting (accepted-from (zeros 162) 0 first verdicts t) (zeros 162) first) 33 0) (opens 4 refl)) refl
 
-pub pooling-touches : TouchesNothing (λ pool. poolOr pool (offered genesis 1 ([]) 0 pool (upgrade 7 8) 0)) → ⊥
+pub dropping-touches : TouchesNothing (λ pool. poolOr pool (dropped genesis 200 pool)) → ⊥
+unfolding genesisOf numberAt readGroups
+dropping-touches = touched _ (λ p. p .count) (poolOf (record { order = upgrade 7 8; slot = record { 0 = 1 }; depot = 0 } ∷ [])) 1 0 refl refl refl
+
+pub adding-touches : TouchesNothing (λ pool. poolOr pool (added genesis 1 ([]) 0 pool (upgrade 7 8) 0)) → ⊥
 unfolding genesisOf numberAt readGroups heldChain run taking
-pooling-touches = touched _ (λ p. p .count) noPool 0 1 refl refl refl
+adding-touches = touched _ (λ p. p .count) noPool 0 1 refl refl refl
 
 pub drafting-touches : TouchesNothing (λ out. issued draftBytes (frontFor 1 []) out 0) → ⊥
 unfolding front heldChain run taking frontBytes written groups

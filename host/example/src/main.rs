@@ -52,7 +52,8 @@ impl Controller {
         Ok(self.held.chain())
     }
 
-    /// An order for the display is pooled, for this controller's next block. It comes from depot 0.
+    /// An order of depot 0 for the display is pooled, for this controller's next block. What no longer counts is dropped before: a call of its own,
+    /// so it stays dropped where the order is then refused.
     fn offer(
         &mut self,
         genesis: &[u8],
@@ -65,7 +66,8 @@ impl Controller {
             expected: from,
             new: to,
         };
-        self.held.offer(genesis, now, &mut self.pool, order, 0)
+        ledger::drop_entries(genesis, now, &mut self.pool)?;
+        self.held.add_order(genesis, now, &mut self.pool, order, 0)
     }
 
     fn report(&self, genesis: &[u8], now: Slot) -> Result<Report, Refusal> {

@@ -47,7 +47,7 @@ mod verdicts;
 pub use blocks::{blocks, Blocks};
 pub use chains::{check, choose, Checked};
 pub use genesis::{genesis_fault, key, write_genesis, GenesisFault, Part};
-pub use held::{Held, Issue, Report};
+pub use held::{drop_entries, Held, Issue, Report};
 pub use limits::*;
 pub use refusal::{Kind, Refusal};
 pub use single::{digest, read_block, read_number, slot_text, write_block, write_number};

@@ -1,7 +1,7 @@
 //! The limits of `include/ledger.h`, by its names.
 
 /// The version of the header that the declarations in [`raw`](crate::raw) follow.
-pub const VERSION: usize = 4;
+pub const VERSION: usize = 5;
 
 /// Displays are 0 to 63.
 pub const DISPLAYS: usize = 64;
@@ -15,7 +15,7 @@ pub const ORDERS: usize = 8;
 pub const POOL_ROOM: usize = 64;
 /// Depots are 0 to 3.
 pub const DEPOTS: usize = 4;
-/// The most entries of one depot that may count.
+/// The most entries of one depot: in a pool that orders are added to all that it has, for every other call those that count.
 pub const DEPOT_ROOM: usize = 16;
 /// The most slots that an order stays pooled: u is 1 to 64.
 pub const POOL_SLOTS: usize = 64;

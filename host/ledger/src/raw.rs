@@ -215,7 +215,8 @@ macro_rules! calls {
         fn ledger_check(genesis: &[u8], clock: Slot, chain: &[u8], verdicts: &[u8]) -> CheckAnswer;
         fn ledger_choose(genesis: &[u8], clock: Slot, held: &[u8], delivered: &[u8], verdicts: &[u8]) -> ChooseAnswer;
         fn ledger_adopt(genesis: &[u8], clock: Slot, held: &mut [u8], length: usize, delivered: &[u8], verdicts: &[u8]) -> AdoptAnswer;
-        fn ledger_pool_order(genesis: &[u8], clock: Slot, held: &[u8], length: usize, pool: Pool, order: Order, depot: u32) -> PoolAnswer;
+        fn ledger_drop_entries(genesis: &[u8], clock: Slot, pool: Pool) -> PoolAnswer;
+        fn ledger_add_order(genesis: &[u8], clock: Slot, held: &[u8], length: usize, pool: Pool, order: Order, depot: u32) -> PoolAnswer;
         fn ledger_draft(genesis: &[u8], clock: Slot, held: &[u8], length: usize, pool: Pool, controller: u32, slot_signature: Signature,
                         out: &mut [u8]) -> IssueAnswer;
         fn ledger_block_text(genesis: &[u8], clock: Slot, held: &[u8], length: usize, pool: Pool, controller: u32, slot_signature: Signature,
@@ -359,15 +360,16 @@ mod tests {
         let (one, other) = (Signature([7; 64]), Signature([8; 64]));
         for [genesis, held, out] in emptied([&GENESIS, &chain, &[0; 192]]) {
             let (at, held_mut, out) = (held.len(), &mut held.to_vec(), &mut out.to_vec());
-            same!(ledger_pool_order(genesis, now, held, at, pool, ORDER, 3));
+            same!(ledger_drop_entries(genesis, now, pool));
+            same!(ledger_add_order(genesis, now, held, at, pool, ORDER, 3));
             same!(ledger_draft(genesis, now, held, at, pool, 1, one, out));
             same!(ledger_block_text(genesis, now, held, at, pool, 1, one, out));
             same!(ledger_append(
                 genesis, now, held_mut, at, pool, 1, one, other
             ));
         }
-        let pooled = nulls::ledger_pool_order(&GENESIS, now, &[], 0, pool, ORDER, 3);
-        assert_eq!(pooled.refusal, 0);
+        let added = nulls::ledger_add_order(&GENESIS, now, &[], 0, pool, ORDER, 3);
+        assert_eq!(added.refusal, 0);
         let drafted = nulls::ledger_draft(&GENESIS, now, &[], 0, pool, 1, one, &mut [0; 192]);
         assert_eq!((drafted.refusal, drafted.length), (0, 98));
     }

@@ -94,7 +94,7 @@ kinds! {
     16 TooLong "TOO_LONG" "a delivered chain has more than 64,256 bytes, or what is to be digested more than 65,536"
     17 BadHeld "BAD_HELD" "the held chain is bad: put its length to 0 and take the next whole chain"
     18 BadPool "BAD_POOL" "the order pool is bad: empty it"
-    20 DepotFull "DEPOT_FULL" "the depot has 16 counting entries in the order pool"
+    20 DepotFull "DEPOT_FULL" "the depot has 16 entries in the order pool"
 }
 
 impl Display for Kind {

@@ -10,8 +10,9 @@ pub type Choose = for<'a> fn(&[u8], Slot, &'a [u8], &'a [u8], &[u8]) -> (&'a [u8
 pub type Adopt =
     fn(&[u8], Slot, &mut [u8], usize, &[u8], &[u8]) -> Result<(usize, BlockCount), Refusal>;
 pub type Report = fn(&[u8], Slot, &[u8], usize) -> Result<report::Report, Refusal>;
+pub type DropEntries = fn(&[u8], Slot, &mut Pool) -> Result<(), Refusal>;
 /// With the depot that the order comes from.
-pub type Offer = fn(&[u8], Slot, &[u8], usize, &mut Pool, Order, u32) -> Result<(), Refusal>;
+pub type AddOrder = fn(&[u8], Slot, &[u8], usize, &mut Pool, Order, u32) -> Result<(), Refusal>;
 /// The draft, or the block text.
 pub type Write = fn(&Issue, &[u8], usize, &mut [u8]) -> Result<usize, Refusal>;
 pub type Append = fn(&Issue, &mut [u8], usize, [u8; 64]) -> Result<usize, Refusal>;
@@ -20,7 +21,8 @@ pub type Append = fn(&Issue, &mut [u8], usize, [u8; 64]) -> Result<usize, Refusa
 #[derive(Clone, Copy)]
 pub struct Calls {
     pub adopt: Adopt,
-    pub offer: Offer,
+    pub drop_entries: DropEntries,
+    pub add_order: AddOrder,
     pub block_text: Write,
     pub append: Append,
     pub report: Report,
@@ -29,7 +31,8 @@ pub struct Calls {
 /// The second implementation.
 pub const SECOND: Calls = Calls {
     adopt: adopt::adopt,
-    offer: pool::offer,
+    drop_entries: pool::drop_entries,
+    add_order: pool::add_order,
     block_text: issue::block_text,
     append: issue::append,
     report: report::report,

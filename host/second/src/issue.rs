@@ -332,6 +332,7 @@ mod tests {
     fn bad_pools() {
         for call in CALLS {
             samples::refuses_bad_pools(|case| call(case).err());
+            samples::takes_old_crowds(|case| call(case).err());
         }
     }
 

@@ -1,4 +1,4 @@
-//! The order pool (01, "Pool an order"; its depots: 02, d).
+//! The order pool (01, "Pool an order"; its depots: 02, d; dropping and adding apart: 02, i).
 use std::ops::RangeInclusive;
 
 use super::chain;
@@ -41,24 +41,43 @@ impl Pool {
         pool
     }
 
-    /// The entries that count, in order, or 18: "count above 64, or within the count an entry with a display above 63, slot 0 or slot
-    /// above now", and 02: "a release above the largest is .. 18 in the pool", "a depot above 3 is 18 in the pool", "a pool with more than 16
-    /// counting entries of one depot is 18".
-    pub fn counting(&self, opening: &Opening) -> Result<Vec<Entry>, Refusal> {
+    /// The entries within the count, or 18: "count above 64, or within the count an entry with a display above 63, slot 0 or slot above now", and
+    /// 02: "a release above the largest is .. 18 in the pool", "a depot above 3 is 18 in the pool".
+    fn good_entries(&self, now: Slot) -> Result<Vec<Entry>, Refusal> {
         let entries = self.entries.get(..self.count as usize).ok_or(refusal(18))?;
-        if !entries.iter().all(|entry| entry.good(opening.now)) {
-            return Err(refusal(18));
+        match entries.iter().all(|entry| entry.good(now)) {
+            true => Ok(entries.to_vec()),
+            false => Err(refusal(18)),
         }
-        let counting: Vec<Entry> = entries
-            .iter()
-            .filter(|entry| entry.counts(opening))
-            .copied()
-            .collect();
-        let crowded = |entry: &Entry| count_of(entry.depot, &counting) > DEPOT_ROOM;
-        if counting.iter().any(crowded) {
-            return Err(refusal(18));
-        }
-        Ok(counting)
+    }
+
+    /// The entries that count, in order, or 18, also for "a pool with more than 16 counting entries of one depot".
+    pub fn counting(&self, opening: &Opening) -> Result<Vec<Entry>, Refusal> {
+        let entries = self.good_entries(opening.now)?;
+        uncrowded(counting_of(&entries, opening))
+    }
+
+    /// All entries, in order, or 18, also for "a depot with more than 16 entries, counting or not".
+    fn present(&self, opening: &Opening) -> Result<Vec<Entry>, Refusal> {
+        uncrowded(self.good_entries(opening.now)?)
+    }
+}
+
+/// Those of these entries that count.
+fn counting_of(entries: &[Entry], opening: &Opening) -> Vec<Entry> {
+    entries
+        .iter()
+        .filter(|entry| entry.counts(opening))
+        .copied()
+        .collect()
+}
+
+/// These entries, or 18 if more than 16 of them are one depot's.
+fn uncrowded(entries: Vec<Entry>) -> Result<Vec<Entry>, Refusal> {
+    let crowded = |entry: &Entry| count_of(entry.depot, &entries) > DEPOT_ROOM;
+    match entries.iter().any(crowded) {
+        true => Err(refusal(18)),
+        false => Ok(entries),
     }
 }
 
@@ -92,11 +111,44 @@ pub fn taken(entries: &[Entry], mut releases: Releases, limit: usize) -> (Vec<Or
     (orders, releases)
 }
 
-/// Pool an order of a depot: 1, 2, 17, 18, 5, 14, 20. "The new order must be valid after the held chain and then the counting entries in order."
-/// "On success the entries that no longer count are gone, the others keep their order, and the new one is last."
+/// 5 for an offer, then 14: "The new order must be valid after the held chain and then the counting entries in order."
+fn judge_offer(
+    order: &Order,
+    depot: u32,
+    counting: &[Entry],
+    releases: Releases,
+) -> Result<(), Refusal> {
+    if !order.in_range() || !DEPOTS.contains(&depot) {
+        return Err(refusal(5));
+    }
+    let (_, releases) = taken(counting, releases, ROOM);
+    match valid(order, &releases) {
+        true => Ok(()),
+        false => Err(refusal(14)),
+    }
+}
+
+/// These entries and a new one behind them, or 20 if the depot has 16 of them.
 ///
-/// 13, which stands after 20, can't occur: past 18 no depot has more than 16 of the 64 that count, and past 20 the asker's has fewer.
-pub fn offer(
+/// 13, which stands after 20, can't occur: past 18 no depot has more than 16 of the 64, and past 20 the asker's has fewer.
+fn joined(mut entries: Vec<Entry>, new: Entry) -> Result<Pool, Refusal> {
+    if count_of(new.depot, &entries) == DEPOT_ROOM {
+        return Err(refusal(20));
+    }
+    entries.push(new);
+    Ok(Pool::of(&entries))
+}
+
+/// 02, i: "one call drops the entries that no longer count": 1, 2, 18. It "leaves zeros past the count".
+pub fn drop_entries(genesis: &[u8], now: Slot, pool: &mut Pool) -> Result<(), Refusal> {
+    let opening = Opening::new(genesis, now)?;
+    *pool = Pool::of(&pool.counting(&opening)?);
+    Ok(())
+}
+
+/// 02, i: "the other only adds an order", of a depot: 1, 2, 17, 18, 5, 14, 20. It "judges validity as before, but its full-pool and depot checks are
+/// over all entries present".
+pub fn add_order(
     genesis: &[u8],
     now: Slot,
     held: &[u8],
@@ -107,53 +159,78 @@ pub fn offer(
 ) -> Result<(), Refusal> {
     let opening = Opening::new(genesis, now)?;
     let held = chain::summary(&opening, held, held_length)?.whole;
-    let mut entries = pool.counting(&opening)?;
-    if !order.in_range() || !DEPOTS.contains(&depot) {
-        return Err(refusal(5));
-    }
-    let (_, releases) = taken(&entries, held.releases, ROOM);
-    if !valid(&order, &releases) {
-        return Err(refusal(14));
-    }
-    if count_of(depot, &entries) == DEPOT_ROOM {
-        return Err(refusal(20));
-    }
-    entries.push(Entry {
-        order,
-        slot: now,
-        depot,
-    });
-    *pool = Pool::of(&entries);
+    let present = pool.present(&opening)?;
+    let counting = counting_of(&present, &opening);
+    judge_offer(&order, depot, &counting, held.releases)?;
+    let slot = now;
+    *pool = joined(present, Entry { order, slot, depot })?;
+    Ok(())
+}
+
+/// What 01 has as one call, "Pool an order", before 02, i split it: 1, 2, 17, 18, 5, 14, 20. "On success the entries that no longer count are gone,
+/// the others keep their order, and the new one is last." No call any more, but what dropping and then adding is held to.
+pub fn drop_and_add(
+    genesis: &[u8],
+    now: Slot,
+    held: &[u8],
+    held_length: usize,
+    pool: &mut Pool,
+    order: Order,
+    depot: u32,
+) -> Result<(), Refusal> {
+    let opening = Opening::new(genesis, now)?;
+    let held = chain::summary(&opening, held, held_length)?.whole;
+    let counting = pool.counting(&opening)?;
+    judge_offer(&order, depot, &counting, held.releases)?;
+    let slot = now;
+    *pool = joined(counting, Entry { order, slot, depot })?;
     Ok(())
 }
 
 #[cfg(test)]
 mod tests {
     use super::*;
+    use crate::calls::AddOrder;
+    use crate::chance::Chance;
     use crate::number::LARGEST;
-    use crate::samples::{self, crowd, entry, in_turn, order, Case};
+    use crate::samples::{self, counting, crowd, entry, in_turn, old, order, Case};
 
-    fn call(case: &mut Case) -> Option<Refusal> {
-        case.offer(offer).err()
+    fn add(case: &mut Case) -> Option<Refusal> {
+        case.add_order(add_order).err()
     }
 
-    /// Depot 0 offers an order at slot 20 to one who holds no blocks; u is 5, display 2 at release 40.
+    fn drop(case: &mut Case) -> Option<Refusal> {
+        case.drop_entries(drop_entries).err()
+    }
+
+    /// One who holds no blocks at slot 20; u is 5, display 2 at release 40.
+    fn at_20(depot: u32, pool: &Pool, order: Order, call: AddOrder) -> Result<Pool, Refusal> {
+        let mut after = pool.clone();
+        let genesis = samples::table();
+        call(&genesis, Slot(20), &[], 0, &mut after, order, depot)?;
+        Ok(after)
+    }
+
+    fn added_by(depot: u32, pool: &Pool, order: Order) -> Result<Pool, Refusal> {
+        at_20(depot, pool, order, add_order)
+    }
+
+    fn dropped(pool: &Pool) -> Result<Pool, Refusal> {
+        let mut after = pool.clone();
+        drop_entries(&samples::table(), Slot(20), &mut after)?;
+        Ok(after)
+    }
+
+    /// Drops, and then adds an order of this depot, which must be what was one call.
+    fn offered_by(depot: u32, pool: &Pool, order: Order) -> Result<Pool, Refusal> {
+        let after = added_by(depot, &dropped(pool)?, order);
+        assert_eq!(after, at_20(depot, pool, order, drop_and_add));
+        after
+    }
+
+    /// The same for depot 0.
     fn offered(pool: &Pool, order: Order) -> Result<Pool, Refusal> {
         offered_by(0, pool, order)
-    }
-
-    fn offered_by(depot: u32, pool: &Pool, order: Order) -> Result<Pool, Refusal> {
-        let mut after = pool.clone();
-        offer(
-            &samples::table(),
-            Slot(20),
-            &[],
-            0,
-            &mut after,
-            order,
-            depot,
-        )?;
-        Ok(after)
     }
 
     #[test]
@@ -239,8 +316,8 @@ mod tests {
         for (asker, other) in DEPOTS.flat_map(|asker| DEPOTS.map(move |other| (asker, other))) {
             for others in (0..=16).filter(|others| asker != other || *others == 0) {
                 let mut pool = Pool::of(&[]);
-                crowd(&mut pool, other, others);
-                crowd(&mut pool, asker, 15);
+                crowd(&mut pool, counting(), other, others);
+                crowd(&mut pool, counting(), asker, 15);
                 let new = order(0, 0, 1);
                 let after = offered_by(asker, &pool, new).unwrap();
                 assert_eq!(after.count, others + 16);
@@ -257,7 +334,7 @@ mod tests {
     #[test]
     fn the_pool_is_full_only_where_each_depot_is() {
         let new = order(0, 0, 1);
-        let full = in_turn(&[entry(order(9, 9, 9), 16); ROOM]);
+        let full = in_turn(&[counting(); ROOM]);
         for (place, depot) in (0..ROOM).zip(DEPOTS.cycle()) {
             let pool = Pool::of(&full);
             assert_eq!(offered_by(depot, &pool, new), Err(refusal(20)));
@@ -271,22 +348,22 @@ mod tests {
         }
     }
 
-    /// "The dropped entries' room is thereby free", also the depot's: only what counts is counted.
+    /// "The dropped entries' room is thereby free", also the depot's.
     #[test]
-    fn entries_that_no_longer_count_take_no_room() {
+    fn dropped_entries_take_no_room() {
         let new = order(0, 0, 1);
-        let full = [entry(order(9, 9, 9), 16); 16];
+        let full = [counting(); 16];
         for place in [0, 7, 15] {
-            let mut old = full;
-            old[place].slot = Slot(15);
+            let mut entries = full;
+            entries[place] = old();
             let after = [&full[1..], &[entry(new, 20)]].concat();
-            assert_eq!(offered(&Pool::of(&old), new), Ok(Pool::of(&after)));
+            assert_eq!(offered(&Pool::of(&entries), new), Ok(Pool::of(&after)));
         }
-        let old = [entry(order(9, 9, 9), 15); ROOM];
+        let all_old = [old(); ROOM];
         let after = Pool::of(&[entry(new, 20)]);
-        assert_eq!(offered(&Pool::of(&old), new), Ok(after));
-        let mut mixed = Pool::of(&old[..48]);
-        crowd(&mut mixed, 0, 16);
+        assert_eq!(offered(&Pool::of(&all_old), new), Ok(after));
+        let mut mixed = Pool::of(&all_old[..48]);
+        crowd(&mut mixed, counting(), 0, 16);
         assert_eq!(offered(&mixed, new), Err(refusal(20)));
         assert_eq!(offered_by(1, &mixed, new).map(|pool| pool.count), Ok(17));
     }
@@ -296,11 +373,11 @@ mod tests {
         for depot in [4, 5, 16, 256, u32::MAX] {
             let mut case = Case::good();
             case.depot = depot;
-            samples::answers(Some(refusal(5)), "depot", case.clone(), call);
+            samples::answers(Some(refusal(5)), "depot", case.clone(), add);
             case.order.display = 64;
-            samples::answers(Some(refusal(5)), "depot and display", case.clone(), call);
+            samples::answers(Some(refusal(5)), "depot and display", case.clone(), add);
             case.pool.count = 65;
-            samples::answers(Some(refusal(18)), "bad pool", case, call);
+            samples::answers(Some(refusal(18)), "bad pool", case, add);
         }
     }
 
@@ -310,46 +387,112 @@ mod tests {
         let genesis = samples::table();
         let held = samples::good_chain(&genesis);
         let mut pool = Pool::of(&[entry(order(2, 40, 41), 19), entry(order(2, 41, 42), 19)]);
-        let mut offer = |held_length, new| {
+        let mut add = |held_length, new| {
             let now = Slot(20);
-            offer(&genesis, now, &held, held_length, &mut pool, new, 2).map(|()| pool.count)
+            add_order(&genesis, now, &held, held_length, &mut pool, new, 2).map(|()| pool.count)
         };
-        assert_eq!(offer(held.len(), order(2, 42, 43)), Err(refusal(14)));
-        assert_eq!(offer(0, order(2, 45, 46)), Err(refusal(14)));
+        assert_eq!(add(held.len(), order(2, 42, 43)), Err(refusal(14)));
+        assert_eq!(add(0, order(2, 45, 46)), Err(refusal(14)));
         // after the first block the second entry is valid, the first no longer
-        assert_eq!(offer(samples::BLOCK, order(2, 42, 43)), Ok(3));
-        assert_eq!(offer(held.len(), order(2, 45, 46)), Ok(4));
+        assert_eq!(add(samples::BLOCK, order(2, 42, 43)), Ok(3));
+        assert_eq!(add(held.len(), order(2, 45, 46)), Ok(4));
+    }
+
+    /// How many entries of slot 7 are left at a slot, with this u.
+    fn left(u: u32, now: u32) -> Result<u32, Refusal> {
+        let genesis = samples::genesis(6, 1, u).bytes();
+        let mut pool = Pool::of(&[entry(order(0, 0, 1), 7)]);
+        drop_entries(&genesis, Slot(now), &mut pool).map(|()| pool.count)
     }
 
     #[test]
     fn the_clock_set_back() {
-        let pool = Pool::of(&[entry(order(0, 0, 1), 7)]);
-        let offer = |now| {
-            let mut pool = pool.clone();
-            let answer = offer(
-                &samples::table(),
-                Slot(now),
-                &[],
-                0,
-                &mut pool,
-                order(1, 0, 1),
-                0,
-            );
-            answer.map(|()| pool.count)
-        };
-        assert_eq!(offer(6), Err(refusal(18)));
-        assert_eq!(offer(7), Ok(2));
-        assert_eq!(offer(11), Ok(2));
-        assert_eq!(offer(12), Ok(1));
+        assert_eq!(left(5, 6), Err(refusal(18)));
+        assert_eq!(left(5, 7), Ok(1));
+        assert_eq!(left(5, 11), Ok(1));
+        assert_eq!(left(5, 12), Ok(0));
     }
 
     #[test]
     fn longest_and_shortest_stay() {
         for (u, now, counts) in [(1, 7, 1), (1, 8, 0), (64, 70, 1), (64, 71, 0)] {
-            let genesis = samples::genesis(6, 1, u).bytes();
-            let mut pool = Pool::of(&[entry(order(0, 0, 1), 7)]);
-            offer(&genesis, Slot(now), &[], 0, &mut pool, order(1, 0, 1), 0).unwrap();
-            assert_eq!(pool.count, counts + 1);
+            assert_eq!(left(u, now), Ok(counts), "u = {u}, now {now}");
+        }
+    }
+
+    /// Entries that no longer count stay in their places, and are not applied: with 40 to 41 applied, 41 to 42 would be valid.
+    #[test]
+    fn adding_drops_nothing() {
+        let entries = [
+            entry(order(2, 40, 41), 15),
+            entry(order(3, 0, 7), 16).of_depot(1),
+            entry(order(3, 0, 9), 1).of_depot(2),
+        ];
+        let pool = Pool::of(&entries);
+        for bad in [order(2, 41, 42), order(3, 9, 10), order(3, 0, 1)] {
+            assert_eq!(added_by(3, &pool, bad), Err(refusal(14)));
+        }
+        for good in [order(2, 40, 50), order(3, 7, 8)] {
+            let new = entry(good, 20).of_depot(3);
+            let after = [&entries[..], &[new]].concat();
+            assert_eq!(added_by(3, &pool, good), Ok(Pool::of(&after)));
+        }
+        assert_eq!(dropped(&pool), Ok(Pool::of(&entries[1..2])));
+    }
+
+    /// Both leave zeros past the count, whatever came there.
+    #[test]
+    fn zeros_past_the_count() {
+        let mut pool = Pool::of(&[counting(), old()]);
+        let spare = entry(order(u32::MAX, u64::MAX, LARGEST + 1), 0).of_depot(4);
+        pool.entries[2..].fill(spare);
+        let new = order(0, 0, 1);
+        let after = [counting(), old(), entry(new, 20).of_depot(1)];
+        assert_eq!(added_by(1, &pool, new), Ok(Pool::of(&after)));
+        assert_eq!(dropped(&pool), Ok(Pool::of(&after[..1])));
+    }
+
+    /// "Its full-pool and depot checks are over all entries present": 20, until the entries that no longer count are dropped.
+    #[test]
+    fn adding_counts_all_entries_present() {
+        let new = order(0, 0, 1);
+        for counting_ones in 0..16 {
+            let mut pool = Pool::of(&[]);
+            crowd(&mut pool, old(), 2, 16 - counting_ones);
+            crowd(&mut pool, counting(), 2, counting_ones);
+            assert_eq!(added_by(2, &pool, new), Err(refusal(20)));
+            assert_eq!(added_by(2, &pool, order(0, 1, 2)), Err(refusal(14)));
+            assert_eq!(added_by(0, &pool, new).map(|pool| pool.count), Ok(17));
+            let cleared = dropped(&pool).unwrap();
+            assert_eq!(cleared.count, counting_ones);
+            let after = added_by(2, &cleared, new).map(|pool| pool.count);
+            assert_eq!(after, Ok(counting_ones + 1));
+        }
+        let full = Pool::of(&in_turn(&[old(); ROOM]));
+        for depot in DEPOTS {
+            assert_eq!(added_by(depot, &full, new), Err(refusal(20)));
+        }
+    }
+
+    /// "The first and then the second answer as the old call did, wherever that did not refuse. If the second refuses, the pool stays cleared": then
+    /// with the old call's number. The old call judged the held chain before the pool.
+    #[test]
+    fn dropping_and_then_adding_is_the_old_call() {
+        let mut chance = Chance::of_seed(12);
+        for _ in 0..20_000 {
+            let case = chance.issuing();
+            let mut at_once = case.clone();
+            let expected = at_once.add_order(drop_and_add);
+            let mut apart = case.clone();
+            if let Err(refused) = apart.drop_entries(drop_entries) {
+                assert!(expected == Err(refused) || expected.unwrap_err().number == 17);
+                assert_eq!(apart, case);
+                continue;
+            }
+            let cleared = apart.clone();
+            assert_eq!(apart.add_order(add_order), expected);
+            let after = if expected.is_ok() { at_once } else { cleared };
+            assert_eq!(apart, after);
         }
     }
 
@@ -358,7 +501,7 @@ mod tests {
         for display in [64, 256, u32::MAX] {
             let mut case = Case::good();
             case.order = order(display, 0, 1);
-            samples::answers(Some(refusal(5)), "display", case, call);
+            samples::answers(Some(refusal(5)), "display", case, add);
         }
     }
 
@@ -378,7 +521,7 @@ mod tests {
                 let mut case = Case::good();
                 (case.genesis, case.held_length) = (table.bytes(), 0);
                 case.order = bad;
-                samples::answers(Some(refusal(5)), "release", case, call);
+                samples::answers(Some(refusal(5)), "release", case, add);
             }
         }
     }
@@ -422,17 +565,22 @@ mod tests {
 
     #[test]
     fn bad_openings() {
-        samples::refuses_bad_openings(call);
+        samples::refuses_bad_openings(add);
+        samples::refuses_bad_openings(drop);
     }
 
     #[test]
     fn bad_held_chains() {
-        samples::refuses_bad_held(call);
+        samples::refuses_bad_held(add);
     }
 
+    /// "A depot with more than 16 entries, counting or not, is 18 for the adding call."
     #[test]
     fn bad_pools() {
-        samples::refuses_bad_pools(call);
+        samples::refuses_bad_pools(add);
+        samples::refuses_bad_pools(drop);
+        samples::refuses_old_crowds(add);
+        samples::takes_old_crowds(drop);
     }
 
     #[test]
@@ -441,13 +589,16 @@ mod tests {
         case.pool = Pool::of(&[entry(order(0, 0, 1), 1), entry(order(1, 0, 1), 2)]);
         case.pool.entries[2] = entry(order(u32::MAX, u64::MAX, 7), 0);
         case.order = order(2, 39, 41);
-        samples::answers(Some(refusal(14)), "old entries", case, call);
+        samples::answers(Some(refusal(14)), "old entries", case, add);
     }
 
     #[test]
     fn the_earliest_of_several_faults() {
-        for faults in samples::kinds(samples::pooling_faults()) {
-            samples::refuses_in_order(&faults, call);
+        for faults in samples::adding_kinds() {
+            samples::refuses_in_order(&faults, add);
+        }
+        for faults in samples::kinds(samples::dropping_faults()) {
+            samples::refuses_in_order(&faults, drop);
         }
     }
 }

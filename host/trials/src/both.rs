@@ -331,7 +331,17 @@ pub fn report(genesis: &[u8], now: Slot, held: &[u8], held_length: usize) -> Ans
     answer
 }
 
-pub fn offer(
+pub fn drop_entries(genesis: &[u8], now: Slot, pool: &mut Pool) -> Answer<()> {
+    let before = pool.clone();
+    let mut other_pool = pool.clone();
+    let answer = proved::drop_entries(genesis, now, pool);
+    let other = pool::drop_entries(genesis, now, &mut other_pool);
+    let given: Given = &[("genesis", &Hex(genesis)), ("now", &now), ("pool", &before)];
+    same("drop", given, (answer, &*pool), (other, &other_pool));
+    answer
+}
+
+pub fn add_order(
     genesis: &[u8],
     now: Slot,
     held: &[u8],
@@ -342,8 +352,8 @@ pub fn offer(
 ) -> Answer<()> {
     let before = pool.clone();
     let mut other_pool = pool.clone();
-    let answer = proved::offer(genesis, now, held, held_length, pool, order, depot);
-    let other = pool::offer(
+    let answer = proved::add_order(genesis, now, held, held_length, pool, order, depot);
+    let other = pool::add_order(
         genesis,
         now,
         held,
@@ -361,7 +371,7 @@ pub fn offer(
         ("order", &order),
         ("depot", &depot),
     ];
-    same("offer", given, (answer, &*pool), (other, &other_pool));
+    same("add", given, (answer, &*pool), (other, &other_pool));
     answer
 }
 
@@ -421,7 +431,8 @@ pub fn append(
 /// Both implementations, compared at every call.
 pub const BOTH: Calls = Calls {
     adopt,
-    offer,
+    drop_entries,
+    add_order,
     block_text,
     append,
     report,
@@ -437,11 +448,12 @@ pub struct Call {
 
 /// Every call that a case has the arguments of.
 #[rustfmt::skip]
-pub const CALLS: [Call; 8] = [
+pub const CALLS: [Call; 9] = [
     Call { name: "check", refusals: &[1, 2, 16, 3, 4, 5, 6, 7, 8, 9, 10], make: |case| case.check(check).err() },
     Call { name: "choose", refusals: &[1, 2, 17, 16, 3, 4, 5, 6, 7, 8, 9, 10, 11], make: |case| case.choose(choose).1 },
     Call { name: "adopt", refusals: &[1, 2, 17, 16, 3, 4, 5, 6, 7, 8, 9, 10, 11, 15], make: |case| case.adopt(adopt).err() },
-    Call { name: "offer", refusals: &[1, 2, 17, 18, 5, 14, 20], make: |case| case.offer(offer).err() },
+    Call { name: "drop", refusals: &[1, 2, 18], make: |case| case.drop_entries(drop_entries).err() },
+    Call { name: "add", refusals: &[1, 2, 17, 18, 5, 14, 20], make: |case| case.add_order(add_order).err() },
     Call { name: "draft", refusals: &[1, 2, 17, 18, 12, 6, 15], make: |case| case.write(draft).err() },
     Call { name: "block text", refusals: &[1, 2, 17, 18, 12, 6, 15], make: |case| case.write(block_text).err() },
     Call { name: "append", refusals: &[1, 2, 17, 18, 12, 6, 15], make: |case| case.append(append).err() },

@@ -4,7 +4,8 @@ use std::collections::{BTreeMap, BTreeSet};
 use second::chance::Chance;
 use second::number::LARGEST;
 use second::order::{Release, Slot};
-use second::pool::{Entry, Pool};
+use second::pool::{self, Entry, Pool};
+use second::refusal;
 use second::samples::{self, block, entry, order, Case, BLOCK, FILLER, STAMPS};
 use trials::both::{self, CALLS};
 use trials::rounds::{all_are_made, rounds};
@@ -319,33 +320,60 @@ fn crowded(asker: u32, own: usize, others: usize, old: bool) -> Pool {
     Pool::of(&entries)
 }
 
-/// Up to 20 entries of the asker's depot and of another, all counting and half of them: 18 exactly if more than 16 of one count, and then 20 exactly
-/// if 16 of the asker's do, whatever the other has.
+/// Up to 20 entries of the asker's depot and of another, all counting and half of them. Adding: 18 exactly if one has more than 16, and then 20
+/// exactly if the asker's has 16, whatever the other has, and whether or not they count. Every other call: 18 exactly if more than 16 of one count.
 #[test]
 fn crowded_depots() {
     for (own, others) in (0..=20).flat_map(|own| (0..=20).map(move |others| (own, others))) {
         for (asker, old) in [(0, false), (3, false), (2, true)] {
-            let pool = crowded(asker, own, others, old);
-            let count = |depot| {
-                let counts = |entry: &&Entry| entry.depot == depot && entry.slot == Slot(16);
-                pool.entries.iter().filter(counts).count()
-            };
-            let [mine, theirs] = [asker, (asker + 1) % 4].map(count);
-            let expected = match mine.max(theirs) {
-                17.. => Some(18),
-                _ => (mine == 16).then_some(20),
-            };
             let mut case = Case {
                 order: order(2, 40, 41),
                 depot: asker,
-                pool,
+                pool: crowded(asker, own, others, old),
                 ..good()
             };
             alike(&case);
-            let refused = case.offer(both::offer).err().map(|refused| refused.number);
-            assert_eq!(refused, expected, "{mine} and {theirs} count");
+            let most = |slot| {
+                let of = |depot| move |entry: &&Entry| entry.depot == depot && entry.slot >= slot;
+                let count = |depot| case.pool.entries.iter().filter(of(depot)).count();
+                count(asker).max(count((asker + 1) % 4))
+            };
+            let [present, counting] = [Slot(15), Slot(16)].map(most);
+            let added = case.clone().add_order(both::add_order);
+            let expected = match present {
+                17.. => Err(refusal(18)),
+                _ if own == 16 => Err(refusal(20)),
+                _ => Ok(()),
+            };
+            assert_eq!(added, expected, "{own} and {others}");
+            let dropped = case.drop_entries(both::drop_entries);
+            assert_eq!(dropped.is_err(), counting > 16, "{own} and {others}");
         }
     }
+}
+
+/// "The first and then the second answer as the old call did, wherever that did not refuse. If the second refuses, the pool stays cleared": and then
+/// with the old call's number.
+#[test]
+fn dropping_and_then_adding_is_the_old_call() {
+    let mut chance = Chance::of_seed(12);
+    let mut met = BTreeSet::new();
+    for _ in 0..rounds(12_000) {
+        let mut case = chance.issuing();
+        let mut at_once = case.clone();
+        let expected = at_once.add_order(pool::drop_and_add);
+        if case.drop_entries(both::drop_entries).is_err() {
+            assert!(expected.is_err());
+            continue;
+        }
+        let cleared = case.pool.clone();
+        assert_eq!(case.add_order(both::add_order), expected);
+        let after = expected.map_or(cleared, |()| at_once.pool);
+        assert_eq!(case.pool, after);
+        met.insert(expected.map_or_else(|refused| refused.number, |()| 0));
+    }
+    let expected = BTreeSet::from([0, 17, 5, 14, 20]);
+    assert!(!all_are_made() || met == expected, "{met:?}");
 }
 
 /// Each call meets each of its refusals, and no other.
@@ -381,7 +409,9 @@ enum Shown {
 
 fn shown(mut case: Case) -> Option<Shown> {
     let (order, depot, now, pool) = (case.order, case.depot, case.now, case.pool.clone());
-    let met = case.offer(both::offer).map_err(|refused| refused.number);
+    let met = case
+        .add_order(both::add_order)
+        .map_err(|refused| refused.number);
     let (within, past) = pool.entries.split_at_checked(pool.count as usize)?;
     let placed = |entry: &Entry| entry.order.display < 64 && (Slot(1)..=now).contains(&entry.slot);
     let large = |entry: &Entry| placed(entry) && !entry.order.in_range();
@@ -406,34 +436,42 @@ fn large_releases_by_chance() {
 /// What a case by chance shows of depots.
 #[derive(Debug, PartialEq, Eq, PartialOrd, Ord)]
 enum Crowd {
-    /// Pooled, and the depot has 16 entries then, or more that do not all count.
+    /// Added, and the depot has 16 entries then.
     Last,
     /// 20.
     Full,
+    /// 20, and it is not met once the pool is cleared.
+    FullOfOld,
     /// 18, and each entry by itself is good.
     Bad,
+    /// 18 of adding alone, likewise.
+    BadByOld,
     /// 5, and the order by itself is good.
     Unknown,
 }
 
-fn crowd(mut case: Case) -> Option<Crowd> {
+/// The number that adding meets.
+fn added(mut case: Case) -> (Option<u32>, Pool) {
+    let refused = case.add_order(both::add_order).err();
+    (refused.map(|refused| refused.number), case.pool)
+}
+
+fn crowd(case: Case) -> Option<Crowd> {
     let good = |entry: &Entry| {
         entry.order.in_range() && entry.depot < 4 && (Slot(1)..=case.now).contains(&entry.slot)
     };
-    let pool = case.pool.clone();
-    let all_good = pool.entries.get(..pool.count as usize)?.iter().all(good);
-    let own = |pool: &Pool, depot| {
-        pool.entries
-            .iter()
-            .filter(|entry| entry.depot == depot)
-            .count()
-    };
-    let (order, depot) = (case.order, case.depot);
-    match case.offer(both::offer).map_err(|refused| refused.number) {
-        Ok(()) if depot > 0 && own(&case.pool, depot) == 16 => Some(Crowd::Last),
-        Err(20) => Some(Crowd::Full),
-        Err(18) if all_good => Some(Crowd::Bad),
-        Err(5) if order.in_range() => Some(Crowd::Unknown),
+    let within = case.pool.entries.get(..case.pool.count as usize)?;
+    let all_good = within.iter().all(good);
+    let mut cleared = case.clone();
+    let dropped = cleared.drop_entries(both::drop_entries);
+    let own = |entry: &&Entry| entry.depot == case.depot && entry.slot > Slot(0);
+    match added(case.clone()) {
+        (None, pool) if pool.entries.iter().filter(own).count() == 16 => Some(Crowd::Last),
+        (Some(20), _) if added(cleared).0 == Some(20) => Some(Crowd::Full),
+        (Some(20), _) => Some(Crowd::FullOfOld),
+        (Some(18), _) if all_good && dropped.is_ok() => Some(Crowd::BadByOld),
+        (Some(18), _) if all_good => Some(Crowd::Bad),
+        (Some(5), _) if case.order.in_range() => Some(Crowd::Unknown),
         _ => None,
     }
 }
@@ -447,6 +485,6 @@ fn crowded_depots_by_chance() {
             *met.entry(crowd).or_insert(0) += 1;
         }
     }
-    let often = met.len() == 4 && met.values().all(|count| *count > 20);
+    let often = met.len() == 6 && met.values().all(|count| *count > 20);
     assert!(!all_are_made() || often, "{met:?}");
 }

@@ -5,8 +5,8 @@ use std::process::Command;
 
 use trials::programs::{compiler, program, root};
 
-/// n = 2 and t = 0: the turns alternate from controller 1 on, and a block is settled exactly if its slot + 1 < now. A block has 32 + 1 + 1 + 64 + 64 =
-/// 162 bytes and those of its orders: 3 for display 4 from 7 to 8, and 4 from 8 to 300, which takes two bytes. In slot 3 the order 7 to 8 still
+/// n = 2 and t = 0: the turns alternate from controller 1 on, and a block is settled exactly if its slot + 1 < now. A block has 32 + 1 + 1 + 64 + 64
+/// = 162 bytes and those of its orders: 3 for display 4 from 7 to 8, and 4 from 8 to 300, which takes two bytes. In slot 3 the order 7 to 8 still
 /// counts (3 - 1 < u = 3), but is no longer valid, so the third block has none.
 const ACCOUNT: &str = "\
 slot 1: controller 1 pools display 4 from 7 to 8
@@ -39,7 +39,8 @@ slot 3: adopts 327 bytes and holds 2 blocks
 slot 3: report on 2 blocks, not to be used
 slot 4: adopts 489 bytes and holds 3 blocks
 slot 4: its pool is damaged
-slot 4: pool: refused 18 0, BAD_POOL
+slot 4: drop: refused 18 0, BAD_POOL
+slot 4: add: refused 18 0, BAD_POOL
 slot 4: empties its pool
 slot 4: pools an order
 slot 5: adopts 651 bytes and holds 4 blocks

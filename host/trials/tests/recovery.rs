@@ -168,7 +168,7 @@ fn one_damaged_byte() {
     }
 }
 
-/// A bad pool keeps a controller from pooling and issuing until it is emptied.
+/// A bad pool keeps a controller from clearing it, from pooling and from issuing until it is emptied.
 #[test]
 fn a_bad_pool() {
     let mut six = in_slot_6();
@@ -176,6 +176,7 @@ fn a_bad_pool() {
     let one = &mut all[5];
     one.pool = Pool::of(&[entry(order(0, 0, 1), 7)]);
     for _ in 0..2 {
+        assert_eq!(one.clear(station, &BOTH, Slot(6)), Err(refusal(18)));
         let offered = one.offer(station, &BOTH, Slot(6), order(1, 0, 1), 0);
         assert_eq!(offered, Err(refusal(18)));
         assert_eq!(one.issue(station, &BOTH, Slot(6)), Err(refusal(18)));

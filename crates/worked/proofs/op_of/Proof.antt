@@ -5,10 +5,10 @@ use Rattle.worked.proofs.op_of.Statement.{statement}
 use Rattle.worked.proofs.op_of.Tie as tie
 
 abbrev Inv-loop : tie.InvT-loop
-Inv-loop line ops op i₀ i = i ≤ 21
+Inv-loop line ops op i₀ i = i ≤ 22
 
 abbrev μ-loop : tie.MeasureT-loop
-μ-loop line ops op i₀ i = 21 - i
+μ-loop line ops op i₀ i = 22 - i
 
 field-requires : tie.Need-field-requires Inv-loop μ-loop
 field-requires c κs = search needs

@@ -8,6 +8,9 @@ use crate::order::{Order, Release, Releases};
 use crate::pool::{Entry, Pool};
 use crate::samples::{self, Case, FILLER};
 
+/// How many slots ago an entry was pooled.
+const AGES: [u32; 8] = [0, 1, 2, 3, 4, 5, 6, 7];
+
 impl Chance {
     /// The arguments of a call on a held chain and a pool, with an order and a controller that often suit them.
     pub fn issuing(&mut self) -> Case {
@@ -48,13 +51,22 @@ impl Chance {
     /// asker's depot is crowded.
     fn pool(&mut self, now: u32, asker: u32, releases: &mut Releases) -> Pool {
         let mut origins = Vec::new();
+        let mut depots = [0, 1, 2, 3];
         if self.once_in(5) {
             origins.extend(self.crowd(asker));
+            // the others', so that the crowd is as large as it is meant to be
+            depots = depots.map(|depot| {
+                if depot == asker {
+                    (depot + 1) % 4
+                } else {
+                    depot
+                }
+            });
         }
         let most = self.of(&[3, 12, 47]);
         for _ in 0..self.below(most) {
             let place = self.below(origins.len() + 1);
-            origins.insert(place, (self.depot(), self.of(&[0, 1, 2, 3, 4, 5, 6, 7])));
+            origins.insert(place, (self.of(&depots), self.of(&AGES)));
         }
         let entries: Vec<Entry> = origins
             .into_iter()
@@ -66,11 +78,11 @@ impl Chance {
         self.faulty_pool(Pool::of(&entries))
     }
 
-    /// Depot and age of about as many entries as a depot has room for, nearly all of them of this slot.
+    /// Depot and age of about as many entries as a depot has room for, of this slot or of any age.
     fn crowd(&mut self, depot: u32) -> Vec<(u32, u32)> {
         let count = self.of(&[15, 16, 16, 17]);
-        let age = |chance: &mut Chance| u32::from(chance.once_in(30));
-        (0..count).map(|_| (depot, age(self))).collect()
+        let ages = self.of(&[&[0], &AGES[..]]);
+        (0..count).map(|_| (depot, self.of(ages))).collect()
     }
 
     /// A pool with a fault now and then, within the count or behind it.

@@ -2,11 +2,11 @@
 use std::mem;
 
 use super::{
-    at, bad_chains, bad_geneses, bad_lengths, bad_pools, chain, crowd, empty_blocks, entry,
-    good_chain, order, put, table, verdicts, BAD_NOWS, BLOCK, COUNT, DISPLAY, FILLER, NEW, NOW,
-    SLOT,
+    at, bad_chains, bad_geneses, bad_lengths, bad_pools, chain, counting, crowd, empty_blocks,
+    entry, good_chain, old, old_crowds, order, put, table, verdicts, BAD_NOWS, BLOCK, COUNT,
+    DISPLAY, FILLER, NEW, NOW, SLOT,
 };
-use crate::calls::{Adopt, Append, Check, Choose, Offer, Report, Write};
+use crate::calls::{AddOrder, Adopt, Append, Check, Choose, DropEntries, Report, Write};
 use crate::chain::LONGEST;
 use crate::issue::Issue;
 use crate::number::LARGEST;
@@ -92,7 +92,11 @@ impl Case {
         call(&self.genesis, self.now, &self.held, self.held_length)
     }
 
-    pub fn offer(&mut self, call: Offer) -> Result<(), Refusal> {
+    pub fn drop_entries(&mut self, call: DropEntries) -> Result<(), Refusal> {
+        call(&self.genesis, self.now, &mut self.pool)
+    }
+
+    pub fn add_order(&mut self, call: AddOrder) -> Result<(), Refusal> {
         call(
             &self.genesis,
             self.now,
@@ -169,8 +173,17 @@ pub fn adopting_faults(stamp: u32) -> Vec<Fault> {
     ]
 }
 
-/// The faults of pooling in their order.
-pub fn pooling_faults() -> Vec<Fault> {
+/// The faults of dropping in their order.
+pub fn dropping_faults() -> Vec<Fault> {
+    vec![
+        (refusal(1), |case| case.genesis.push(0)),
+        (refusal(2), |case| case.now = Slot(0)),
+        (refusal(18), |case| case.pool.count = 65),
+    ]
+}
+
+/// The faults of adding in their order.
+pub fn adding_faults() -> Vec<Fault> {
     vec![
         (refusal(1), |case| case.genesis.push(0)),
         (refusal(2), |case| case.now = Slot(0)),
@@ -178,7 +191,9 @@ pub fn pooling_faults() -> Vec<Fault> {
         (refusal(18), |case| case.pool.count = 65),
         (refusal(5), |case| case.order.display = 64),
         (refusal(14), |case| case.order.new = case.order.expected),
-        (refusal(20), |case| crowd(&mut case.pool, case.depot, 16)),
+        (refusal(20), |case| {
+            crowd(&mut case.pool, counting(), case.depot, 16)
+        }),
     ]
 }
 
@@ -196,6 +211,17 @@ pub fn issuing_faults() -> Vec<Fault> {
             case.buffer.clear();
         }),
     ]
+}
+
+/// The faults of adding in all their ways: also where the entries that crowd a depot no longer count.
+pub fn adding_kinds() -> Vec<Vec<Fault>> {
+    let mut kinds = kinds(adding_faults());
+    let full = with(&adding_faults(), 20, |case| {
+        crowd(&mut case.pool, old(), case.depot, 16)
+    });
+    let crowded = with(&full, 18, |case| crowd(&mut case.pool, old(), 2, 17));
+    kinds.extend([full, crowded]);
+    kinds
 }
 
 /// These faults, and the same with other ways to meet 18 and 5: by releases, and by depots.
@@ -223,7 +249,7 @@ fn of_releases(faults: &[Fault]) -> [Vec<Fault>; 2] {
 /// These faults, where a depot is what is wrong with the pool and with an offer: one above 3, and in the pool one with 17 counting entries.
 fn of_depots(faults: &[Fault]) -> [Vec<Fault>; 2] {
     let above = with(faults, 18, |case| case.pool.entries[0].depot = 4);
-    let crowded = with(faults, 18, |case| crowd(&mut case.pool, 2, 17));
+    let crowded = with(faults, 18, |case| crowd(&mut case.pool, counting(), 2, 17));
     [above, crowded].map(|faults| with(&faults, 5, |case| case.depot = 4))
 }
 
@@ -324,5 +350,27 @@ pub fn refuses_bad_pools(call: impl Fn(&mut Case) -> Option<Refusal>) {
             ..Case::good()
         };
         answers(Some(refusal(18)), &fault, case, &call);
+    }
+}
+
+/// Sees that the adding call refuses with 18 where a depot has too many entries, though they no longer count.
+pub fn refuses_old_crowds(call: impl Fn(&mut Case) -> Option<Refusal>) {
+    for (fault, pool) in old_crowds() {
+        let case = Case {
+            pool,
+            ..Case::good()
+        };
+        answers(Some(refusal(18)), &fault, case, &call);
+    }
+}
+
+/// Sees that a call takes no offence at them.
+pub fn takes_old_crowds(call: impl Fn(&mut Case) -> Option<Refusal>) {
+    for (name, pool) in old_crowds() {
+        let case = Case {
+            pool,
+            ..Case::good()
+        };
+        answers(None, &name, case, &call);
     }
 }

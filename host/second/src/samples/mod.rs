@@ -358,11 +358,20 @@ pub fn in_turn(entries: &[Entry]) -> Vec<Entry> {
         .collect()
 }
 
-/// Puts so many entries of a depot behind those of a pool. They count at slot 20, and no state makes them valid.
-pub fn crowd(pool: &mut Pool, depot: u32, entries: u32) {
-    let crowding = entry(order(9, 9, 9), 16).of_depot(depot);
-    for _ in 0..entries {
-        pool.entries[pool.count as usize] = crowding;
+/// An entry that counts at slot 20. No state makes it valid.
+pub fn counting() -> Entry {
+    entry(order(9, 9, 9), 16)
+}
+
+/// An entry that no longer counts at slot 20.
+pub fn old() -> Entry {
+    entry(order(9, 9, 9), 15)
+}
+
+/// Puts an entry, as one of this depot, so many times behind those of a pool.
+pub fn crowd(pool: &mut Pool, entry: Entry, depot: u32, times: u32) {
+    for _ in 0..times {
+        pool.entries[pool.count as usize] = entry.of_depot(depot);
         pool.count += 1;
     }
 }
@@ -405,7 +414,7 @@ fn crowded_pools() -> Vec<(String, Pool)> {
     let mut bad = Vec::new();
     for depot in DEPOTS {
         let mut pool = Pool::of(&[]);
-        crowd(&mut pool, depot, 17);
+        crowd(&mut pool, counting(), depot, 17);
         bad.push((format!("17 counting entries of depot {depot}"), pool));
     }
     let mut full = full_pool();
@@ -414,6 +423,20 @@ fn crowded_pools() -> Vec<(String, Pool)> {
     let one = Pool::of(&[entry(order(0, 0, 1), 18); ROOM]);
     bad.push(("64 entries of depot 0".into(), one));
     bad
+}
+
+/// Pools with more than 16 entries of a depot, of which fewer count: for the adding call alone they are bad.
+pub fn old_crowds() -> Vec<(String, Pool)> {
+    let mut pools = Vec::new();
+    for (counting_ones, old_ones) in [(0, 17), (1, 16), (16, 1), (0, 64), (16, 48)] {
+        let mut pool = Pool::of(&[]);
+        crowd(&mut pool, old(), 1, old_ones);
+        crowd(&mut pool, counting(), 1, counting_ones);
+        let name =
+            format!("{counting_ones} entries of depot 1 that count and {old_ones} that do not");
+        pools.push((name, pool));
+    }
+    pools
 }
 
 /// Pools that meet 18 at slot 20, and why.

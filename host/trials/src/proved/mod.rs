@@ -13,5 +13,5 @@ mod tables;
 pub use blocks::{read_block, slot_text, walk_step, write_block};
 pub use chains::{adopt, check, choose, report};
 pub use numbers::{digest, read_number, write_number};
-pub use pools::{append, block_text, draft, offer};
+pub use pools::{add_order, append, block_text, draft, drop_entries};
 pub use tables::{key, read_genesis, turn};

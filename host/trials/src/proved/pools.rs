@@ -6,8 +6,16 @@ use second::order::{Order, Slot};
 use second::pool::Pool;
 use second::Refusal;
 
-/// Pools an order of a depot.
-pub fn offer(
+/// Drops the entries that no longer count.
+pub fn drop_entries(genesis: &[u8], now: Slot, pool: &mut Pool) -> Result<(), Refusal> {
+    let mut lent = lent_pool(pool);
+    let dropped = ledger::drop_entries(genesis, lent_slot(now), &mut lent);
+    *pool = across::pool(&lent);
+    dropped.map_err(across::refusal)
+}
+
+/// Adds an order of a depot.
+pub fn add_order(
     genesis: &[u8],
     now: Slot,
     held: &[u8],
@@ -18,9 +26,9 @@ pub fn offer(
 ) -> Result<(), Refusal> {
     let held = Held::stored(held, held_length);
     let mut lent = lent_pool(pool);
-    let offered = held.offer(genesis, lent_slot(now), &mut lent, lent_order(order), depot);
+    let added = held.add_order(genesis, lent_slot(now), &mut lent, lent_order(order), depot);
     *pool = across::pool(&lent);
-    offered.map_err(across::refusal)
+    added.map_err(across::refusal)
 }
 
 /// Writes the next block without its last 64 bytes and gives the length.
@@ -76,20 +84,34 @@ mod tests {
             .filter(move |call| call.refusals.contains(&number))
     }
 
+    /// A call by its name.
+    fn call(name: &str) -> &'static Call {
+        CALLS.iter().find(|call| call.name == name).unwrap()
+    }
+
     #[test]
     fn good_and_bad_cases() {
         for call in calls(18) {
             samples::answers(None, "no fault", Case::good(), call.make);
             samples::refuses_bad_openings(call.make);
-            samples::refuses_bad_held(call.make);
             samples::refuses_bad_pools(call.make);
+            match call.name {
+                "add" => samples::refuses_old_crowds(call.make),
+                _ => samples::takes_old_crowds(call.make),
+            }
+            if call.refusals.contains(&17) {
+                samples::refuses_bad_held(call.make);
+            }
         }
     }
 
     #[test]
     fn the_earliest_of_several_faults() {
-        for faults in samples::kinds(samples::pooling_faults()) {
-            calls(14).for_each(|call| samples::refuses_in_order(&faults, call.make));
+        for faults in samples::kinds(samples::dropping_faults()) {
+            samples::refuses_in_order(&faults, call("drop").make);
+        }
+        for faults in samples::adding_kinds() {
+            samples::refuses_in_order(&faults, call("add").make);
         }
         for faults in samples::kinds(samples::issuing_faults()) {
             calls(12).for_each(|call| samples::refuses_in_order(&faults, call.make));
@@ -108,7 +130,7 @@ mod tests {
             }
         }
         let often = |count: &u64| (10..90).contains(&(100 * count / rounds));
-        assert_eq!(calls(18).count(), 4);
-        assert!(accepted[..4].iter().all(often), "{accepted:?} accepted");
+        assert_eq!(calls(18).count(), 5);
+        assert!(accepted[..5].iter().all(often), "{accepted:?} accepted");
     }
 }

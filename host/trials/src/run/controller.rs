@@ -46,7 +46,12 @@ impl Controller {
         Ok(count)
     }
 
-    /// Is offered an order by a depot.
+    /// Clears its pool of what no longer counts.
+    pub fn clear(&mut self, station: &Station, calls: &Calls, now: Slot) -> Result<(), Refusal> {
+        (calls.drop_entries)(&station.bytes, now, &mut self.pool)
+    }
+
+    /// Is offered an order by a depot, and adds it.
     pub fn offer(
         &mut self,
         station: &Station,
@@ -57,7 +62,7 @@ impl Controller {
     ) -> Result<(), Refusal> {
         let genesis = &station.bytes;
         let (held, pool) = (&self.held, &mut self.pool);
-        (calls.offer)(genesis, now, held, self.length, pool, order, depot)
+        (calls.add_order)(genesis, now, held, self.length, pool, order, depot)
     }
 
     /// Signs the slot text and the block text, and appends.

@@ -50,7 +50,7 @@ pub enum Broken {
     TakenBack(Slot, u32),
     /// One holds fewer blocks than there were correct turns.
     Behind(Slot, u32),
-    /// One could not issue in its turn, or not report.
+    /// One could not issue in its turn, not clear its pool, or not report.
     Refused(Slot, u32, Refusal),
 }
 
@@ -75,6 +75,7 @@ pub fn run(plan: Plan, calls: &Calls) -> Result<Account, Broken> {
     for now in (1..=plan.slots).map(Slot) {
         run.deliver(now);
         run.judge(now)?;
+        run.clear(now)?;
         run.offer(now);
         let mut letters = run.issue(now)?;
         letters.extend(run.disturb(now));
@@ -147,6 +148,18 @@ impl<'a> Run<'a> {
         }
         self.account.forks += u32::from(chains.iter().any(|chain| *chain != chains[0]));
         self.settled = first.map_or(Vec::new(), |(_, (bytes, _))| bytes);
+        Ok(())
+    }
+
+    /// Most of the correct controllers clear their pools; the others add to what is there.
+    fn clear(&mut self, now: Slot) -> Result<(), Broken> {
+        for one in &mut self.correct {
+            if self.chance.once_in(4) {
+                continue;
+            }
+            one.clear(&self.station, self.calls, now)
+                .map_err(|refused| Broken::Refused(now, one.number, refused))?;
+        }
         Ok(())
     }
 

@@ -1,19 +1,41 @@
-//! Orders offered to a pool.
+//! Entries dropped from a pool, and orders added to it.
 use second::number::LARGEST;
 use second::order::{Order, Release, Slot};
 use second::pool::{self, Entry, Pool, ROOM};
-use second::samples::{self, entry, in_turn, order, BLOCK};
+use second::samples::{self, counting, entry, in_turn, old, order, BLOCK};
 use second::{refusal, Refusal};
 
-use crate::case::{case, refused, Case, Field, Op, Section};
+use crate::case::{boxed_case, refused, Case, Field, Op, Section};
 use crate::faults::{at, bad_blocks, bad_openings, several, Arguments};
 
-/// offer GENESIS NOW HELD LENGTH DISPLAY EXPECTED NEW DEPOT COUNT DISPLAY EXPECTED NEW SLOT DEPOT ..
-pub struct Offer(pub Arguments);
+/// drop GENESIS NOW COUNT DISPLAY EXPECTED NEW SLOT DEPOT ..
+pub struct Drop(pub Arguments);
 
-impl Op for Offer {
+impl Op for Drop {
     fn word(&self) -> &'static str {
-        "offer"
+        "drop"
+    }
+
+    fn fields(&self) -> Vec<Field> {
+        let given = &self.0;
+        let mut fields = vec![given.genesis[..].into(), given.now.0.into()];
+        fields.extend(pool_fields(&given.pool));
+        fields
+    }
+
+    fn answer(&self) -> String {
+        let mut given = self.0.clone();
+        let answer = given.drop_entries(pool::drop_entries);
+        answer_text(answer, &given.pool)
+    }
+}
+
+/// add GENESIS NOW HELD LENGTH DISPLAY EXPECTED NEW DEPOT COUNT DISPLAY EXPECTED NEW SLOT DEPOT ..
+pub struct Add(pub Arguments);
+
+impl Op for Add {
+    fn word(&self) -> &'static str {
+        "add"
     }
 
     fn fields(&self) -> Vec<Field> {
@@ -34,10 +56,15 @@ impl Op for Offer {
 
     fn answer(&self) -> String {
         let mut given = self.0.clone();
-        match given.offer(pool::offer) {
-            Ok(()) => pool_text(&given.pool),
-            Err(refusal) => kept_text(refusal, &given.pool),
-        }
+        let answer = given.add_order(pool::add_order);
+        answer_text(answer, &given.pool)
+    }
+}
+
+fn answer_text(answer: Result<(), Refusal>, pool: &Pool) -> String {
+    match answer {
+        Ok(()) => pool_text(pool),
+        Err(refusal) => kept_text(refusal, pool),
     }
 }
 
@@ -85,15 +112,29 @@ fn kept_text(refusal: Refusal, pool: &Pool) -> String {
     format!("{} {}", refused(refusal), pool_text(pool))
 }
 
+/// One of the two ops on these arguments.
+type Make = fn(Arguments) -> Box<dyn Op>;
+
+const DROP: Make = |given| Box::new(Drop(given));
+const ADD: Make = |given| Box::new(Add(given));
+
 /// The pool is of these entries afterwards, with zeros past them.
-fn pooled(name: impl Into<String>, given: Arguments, after: &[Entry]) -> Case {
-    case(name, Offer(given)).by_hand(pool_text(&Pool::of(after)))
+fn leaves(make: Make, name: impl Into<String>, given: Arguments, after: &[Entry]) -> Case {
+    boxed_case(name, make(given)).by_hand(pool_text(&Pool::of(after)))
 }
 
 /// The pool stays as it came.
-fn kept(name: impl Into<String>, given: Arguments, refusal: Refusal) -> Case {
+fn keeps(make: Make, name: impl Into<String>, given: Arguments, refusal: Refusal) -> Case {
     let by_hand = kept_text(refusal, &given.pool);
-    case(name, Offer(given)).by_hand(by_hand)
+    boxed_case(name, make(given)).by_hand(by_hand)
+}
+
+fn added(name: impl Into<String>, given: Arguments, after: &[Entry]) -> Case {
+    leaves(ADD, name, given, after)
+}
+
+fn kept(name: impl Into<String>, given: Arguments, refusal: Refusal) -> Case {
+    keeps(ADD, name, given, refusal)
 }
 
 /// The first release that 32 bits do not hold.
@@ -114,56 +155,49 @@ fn at_20(pool: Pool, order: Order) -> Arguments {
 /// The new order behind all of these entries.
 fn behind(name: &str, entries: &[Entry], new: Order) -> Case {
     let after = [entries, &[entry(new, 20)]].concat();
-    pooled(name, at_20(Pool::of(entries), new), &after)
+    added(name, at_20(Pool::of(entries), new), &after)
 }
 
 fn refuses(name: &str, entries: &[Entry], new: Order, number: u32) -> Case {
     kept(name, at_20(Pool::of(entries), new), refusal(number))
 }
 
-/// Entries from slot 16 on count.
-fn dropped() -> Vec<Case> {
-    let new = order(2, 44, 45);
+/// Four entries for display 2, of which those from slot 16 on count; and behind them what is past a count.
+fn mixed_ages() -> ([Entry; 4], Pool) {
     let entries = [
         entry(order(2, 40, 41), 15),
-        entry(order(2, 40, 42), 16),
-        entry(order(2, 42, 43), 1),
-        entry(order(2, 42, 44), 20),
+        entry(order(2, 40, 42), 16).of_depot(1),
+        entry(order(2, 42, 43), 1).of_depot(2),
+        entry(order(2, 42, 44), 20).of_depot(3),
     ];
-    let young = [entries[1], entries[3], entry(new, 20)];
     let mut spare = Pool::of(&entries);
     spare.entries[4..].fill(entry(order(u32::MAX, LARGEST + 1, u64::MAX), 0).of_depot(4));
-    let only_old = order(2, 41, 42);
+    (entries, spare)
+}
+
+/// "One call drops the entries that no longer count", and leaves "zeros past the count".
+fn dropped() -> Vec<Case> {
+    let any = order(0, 0, 1);
+    let (entries, spare) = mixed_ages();
+    let young = [entries[1], entries[3]];
+    let drop = |name: &str, pool, after: &[Entry]| leaves(DROP, name, at_20(pool, any), after);
+    let all = in_turn(&[counting(); ROOM]);
     vec![
-        behind("a pool of no entries", &[], order(2, 40, 41)),
-        pooled(
-            "slots 15, 16, 1, 20",
-            at_20(Pool::of(&entries), new),
-            &young,
-        ),
-        pooled(
-            "the same, and entries past the count",
-            at_20(spare.clone(), new),
-            &young,
-        ),
-        kept(
-            "the same, and an order that is not valid",
-            at_20(spare, only_old),
-            refusal(14),
-        ),
-        refuses(
-            "valid only after an entry that no longer counts",
-            &[entries[0]],
-            only_old,
-            14,
+        drop("a pool of no entries", Pool::of(&[]), &[]),
+        drop("slots 15, 16, 1, 20", Pool::of(&entries), &young),
+        drop("the same, and entries past the count", spare, &young),
+        drop("64 entries, all count", Pool::of(&all), &all),
+        drop(
+            "64 entries of one depot, none counts",
+            Pool::of(&[old(); ROOM]),
+            &[],
         ),
     ]
 }
 
 /// "An entry counts while now minus its slot is less than u."
 fn ages() -> Vec<Case> {
-    let old = entry(order(0, 0, 1), 7);
-    let new = order(1, 0, 1);
+    let entry = entry(order(0, 0, 1), 7);
     let ages = [
         (5, 7, true),
         (5, 11, true),
@@ -179,19 +213,47 @@ fn ages() -> Vec<Case> {
             let given = Arguments {
                 genesis: samples::genesis(6, 1, u).bytes(),
                 now: Slot(now),
-                ..at_20(Pool::of(&[old]), new)
+                ..at_20(Pool::of(&[entry]), order(1, 0, 1))
             };
-            let after = [old, entry(new, now)];
             let name = format!("slot 7, u = {u}, now {now}");
-            pooled(name, given, &after[usize::from(!counts)..])
+            leaves(DROP, name, given, &[entry][usize::from(!counts)..])
         })
         .collect();
     let back = Arguments {
         now: Slot(6),
-        ..at_20(Pool::of(&[old]), new)
+        ..at_20(Pool::of(&[entry]), order(1, 0, 1))
     };
-    cases.push(kept("slot 7, the clock set back to 6", back, refusal(18)));
+    let name = "slot 7, the clock set back to 6";
+    cases.push(keeps(DROP, name, back, refusal(18)));
     cases
+}
+
+/// "The other only adds an order": entries that no longer count stay in their places, and are not applied.
+fn only_added() -> Vec<Case> {
+    let (entries, spare) = mixed_ages();
+    let new = order(2, 44, 45);
+    let after = [&entries[..], &[entry(new, 20)]].concat();
+    let only_old = order(2, 41, 42);
+    vec![
+        behind("a pool of no entries", &[], order(2, 40, 41)),
+        behind("slots 15, 16, 1, 20", &entries, new),
+        added(
+            "the same, and entries past the count",
+            at_20(spare.clone(), new),
+            &after,
+        ),
+        kept(
+            "the same, and an order that is not valid",
+            at_20(spare, only_old),
+            refusal(14),
+        ),
+        refuses(
+            "valid only after an entry that no longer counts",
+            &[entries[0]],
+            only_old,
+            14,
+        ),
+    ]
 }
 
 /// "Valid after the held chain and then the counting entries in order, entries that are invalid at their place being skipped."
@@ -244,7 +306,7 @@ fn chain_below() -> Vec<Case> {
             };
             let name = format!("{blocks} blocks held, {expected} expected");
             cases.push(match expected == release {
-                true => pooled(name, given, &[&entries[..], &[entry(new, 20)]].concat()),
+                true => added(name, given, &[&entries[..], &[entry(new, 20)]].concat()),
                 false => kept(name, given, refusal(14)),
             });
         }
@@ -260,11 +322,11 @@ fn by_depot(depot: u32, entries: &[Entry]) -> Arguments {
     }
 }
 
-/// It is pooled behind all of them.
+/// It is added behind all of them.
 fn room_for(name: &str, depot: u32, entries: &[Entry]) -> Case {
     let new = entry(order(0, 0, 1), 20).of_depot(depot);
     let after = [entries, &[new]].concat();
-    pooled(name, by_depot(depot, entries), &after)
+    added(name, by_depot(depot, entries), &after)
 }
 
 fn no_room_for(name: &str, depot: u32, entries: &[Entry], order: Order, number: u32) -> Case {
@@ -275,19 +337,23 @@ fn no_room_for(name: &str, depot: u32, entries: &[Entry], order: Order, number: 
     kept(name, given, refusal(number))
 }
 
-/// 02: "a depot may have at most 16 counting entries", and "20 .. after 14". Entries from slot 16 on count.
+/// 02: "20 .. after 14", "its full-pool and depot checks are over all entries present". Entries from slot 16 on count.
 fn room() -> Vec<Case> {
     let new = order(0, 0, 1);
-    let full = [entry(order(9, 9, 9), 16); 16];
+    let full = [counting(); 16];
     let of_two = full.map(|entry| entry.of_depot(2));
-    let all = in_turn(&[entry(order(9, 9, 9), 16); ROOM]);
+    let all = in_turn(&[counting(); ROOM]);
     let mut one_old = full;
-    one_old[7].slot = Slot(15);
-    let after = [&full[1..], &[entry(new, 20)]].concat();
-    let old = [entry(order(9, 9, 9), 15); ROOM];
+    one_old[7] = old();
+    let mixed = [&full[..], &[old()]].concat();
     vec![
         room_for("15 of depot 0", 0, &full[1..]),
         no_room_for("16 of depot 0", 0, &full, new, 20),
+        no_room_for("16, one no longer counts", 0, &one_old, new, 20),
+        no_room_for("16, none counts", 0, &[old(); 16], new, 20),
+        room_for("16, none counts, depot 1 asks", 1, &[old(); 16]),
+        no_room_for("17, one no longer counts", 1, &mixed, new, 18),
+        no_room_for("17, none counts", 1, &[old(); 17], new, 18),
         room_for("16 of depot 2, depot 3 asks", 3, &of_two),
         room_for("16 of depot 2, depot 0 asks", 0, &of_two),
         no_room_for("16 of depot 2, it asks", 2, &of_two, new, 20),
@@ -297,8 +363,6 @@ fn room() -> Vec<Case> {
         no_room_for("63 entries, 16 of depot 1", 1, &all[1..], new, 20),
         no_room_for("64 entries, 16 of depot 0", 0, &all, new, 20),
         no_room_for("64 entries, 16 of depot 3", 3, &all, new, 20),
-        pooled("16, one no longer counts", by_depot(0, &one_old), &after),
-        pooled("64, none counts", by_depot(0, &old), &after[15..]),
     ]
 }
 
@@ -334,21 +398,23 @@ fn displays() -> Vec<Case> {
 /// 02: "a release above the largest is 5 in an offer", whether or not it would be valid, and where the depot has no room.
 fn releases() -> Vec<Case> {
     let one = [entry(order(2, 40, 41), 18)];
-    let full = [entry(order(9, 9, 9), 16); 16];
+    let full = [counting(); 16];
     let large = LARGEST + 1;
     vec![
         refuses("expected 34,359,738,368", &one, order(2, large, 41), 5),
         refuses("new 34,359,738,368", &one, order(2, 41, large), 5),
         refuses("both", &one, order(2, large, large), 5),
         refuses("new 2^64 - 1", &one, order(2, 41, u64::MAX), 5),
-        refuses("16 entries count", &full, order(0, 0, large), 5),
+        refuses("16 entries of the depot", &full, order(0, 0, large), 5),
     ]
 }
 
+/// Each with one of the two calls in turn.
 fn bad_pools() -> Vec<Case> {
     samples::bad_pools()
         .into_iter()
-        .map(|(fault, pool)| kept(fault, at_20(pool, order(1, 0, 1)), refusal(18)))
+        .zip([DROP, ADD].into_iter().cycle())
+        .map(|((fault, pool), make)| keeps(make, fault, at_20(pool, order(1, 0, 1)), refusal(18)))
         .collect()
 }
 
@@ -382,30 +448,60 @@ pub fn bad_before_the_pool() -> Vec<(String, Arguments, Refusal)> {
     bad
 }
 
-fn all_kept(faults: Vec<(String, Arguments, Refusal)>) -> Vec<Case> {
+fn all_kept(make: Make, faults: Vec<(String, Arguments, Refusal)>) -> Vec<Case> {
     faults
         .into_iter()
-        .map(|(name, given, refused)| kept(name, given, refused))
+        .map(|(name, given, refused)| keeps(make, name, given, refused))
         .collect()
 }
 
-pub fn sections() -> Vec<Section> {
+fn bad_before_dropping() -> Vec<(String, Arguments, Refusal)> {
+    bad_openings()
+        .into_iter()
+        .map(|(fault, given, number)| (fault, given, refusal(number)))
+        .collect()
+}
+
+fn dropping() -> Vec<Section> {
     let section = |title, cases| Section { title, cases };
-    let faults = samples::pooling_faults();
     vec![
-        section("Pool: entries that no longer count are gone", dropped()),
-        section("Pool: how long an entry counts", ages()),
-        section("Pool: valid where it would stand, or 14", validity()),
-        section("Pool: the chain below decides", chain_below()),
-        section("Pool: 20 if the depot has 16 counting entries", room()),
-        section("Pool: 5 for the depot that offers", depots()),
-        section("Pool: 5 for the display offered", displays()),
-        section("Pool: 5 for a release offered", releases()),
-        section("Pool: 18 for a bad pool", bad_pools()),
-        section("Pool: 1, 2 and 17", all_kept(bad_before_the_pool())),
+        section("Drop: entries that no longer count are gone", dropped()),
+        section("Drop: how long an entry counts", ages()),
+        section("Drop: 1 and 2", all_kept(DROP, bad_before_dropping())),
         section(
-            "Pool: the earliest of several faults",
-            all_kept(several(&faults)),
+            "Drop: the earliest of several faults",
+            all_kept(DROP, several(&samples::dropping_faults())),
         ),
     ]
+}
+
+fn adding() -> Vec<Section> {
+    let section = |title, cases| Section { title, cases };
+    vec![
+        section("Add: entries that no longer count stay", only_added()),
+        section("Add: valid where it would stand, or 14", validity()),
+        section("Add: the chain below decides", chain_below()),
+        section(
+            "Add: 20 if the depot has 16 entries, counting or not",
+            room(),
+        ),
+        section("Add: 5 for the depot that offers", depots()),
+        section("Add: 5 for the display offered", displays()),
+        section("Add: 5 for a release offered", releases()),
+        section("Add: 1, 2 and 17", all_kept(ADD, bad_before_the_pool())),
+        section(
+            "Add: the earliest of several faults",
+            all_kept(ADD, several(&samples::adding_faults())),
+        ),
+    ]
+}
+
+pub fn sections() -> Vec<Section> {
+    let mut sections = dropping();
+    sections.extend(adding());
+    sections.push(Section {
+        title: "Drop, Add: 18 for a bad pool",
+        cases: bad_pools(),
+    });
+    sections
 }

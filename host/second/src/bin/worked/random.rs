@@ -11,7 +11,7 @@ use crate::choices::Choose;
 use crate::held::Held;
 use crate::issues::{Issuing, CALLS};
 use crate::orders::{At, Take, Valid};
-use crate::pools::Offer;
+use crate::pools::{Add, Drop};
 use crate::tables::{Depth, Key, Table, Turn};
 use crate::walks::Steps;
 use crate::writes::{Front, Length, Parts, SlotText, Write};
@@ -39,6 +39,14 @@ fn write(chance: &mut Chance) -> Write {
         buffer: vec![FILLER; length],
         at,
         parts,
+    }
+}
+
+fn pooling(chance: &mut Chance) -> Box<dyn Op> {
+    let given = chance.issuing();
+    match chance.below(2) {
+        0 => Box::new(Drop(given)),
+        _ => Box::new(Add(given)),
     }
 }
 
@@ -77,7 +85,7 @@ fn op(chance: &mut Chance) -> Box<dyn Op> {
         12 | 13 => Box::new(Check(chance.exchange())),
         14 => Box::new(Held(chance.exchange())),
         15 => Box::new(Choose(chance.exchange())),
-        16 => Box::new(Offer(chance.issuing())),
+        16 => pooling(chance),
         17 => Box::new(Issuing(chance.of(&CALLS), chance.issuing())),
         _ => Box::new(Adopt(chance.exchange())),
     }

@@ -1,7 +1,7 @@
 //! The calls on a held chain and a pool against the second implementation, and where blocks are held, against the digests of its blocks.
 use std::hint::black_box;
 
-use second::calls::Offer;
+use second::calls::{AddOrder, DropEntries};
 use second::pool::{Entry, Pool};
 use second::samples::{self, Case, FILLER};
 use trials::{both, proved};
@@ -10,7 +10,7 @@ use crate::chains::{row, Chain};
 use crate::{digests, keep, least};
 
 /// So many of the longest blocks are held, in the slot after the last, and so many orders are pooled for other displays than theirs, by the depots
-/// in turn. One more is offered by depot 3, which has room for it also behind 63.
+/// in turn. One more is added by depot 3, which has room for it also behind 63.
 fn case(blocks: u32, entries: u32) -> (Case, Chain) {
     let chain = Chain::new(blocks);
     let now = chain.now;
@@ -50,15 +50,22 @@ const REPORT: Contenders =
 
 /// The calls on a held chain and a pool.
 #[rustfmt::skip]
-const POOL_CALLS: [Contenders; 3] = [
-    ("offer", |case| offer(case, proved::offer), |case| offer(case, second::pool::offer)),
+const POOL_CALLS: [Contenders; 4] = [
+    ("drop", |case| drop_entries(case, proved::drop_entries), |case| drop_entries(case, second::pool::drop_entries)),
+    ("add", |case| add_order(case, proved::add_order), |case| add_order(case, second::pool::add_order)),
     ("draft", |case| keep(case.write(proved::draft)), |case| keep(case.write(second::issue::draft))),
     ("append", |case| keep(case.append(proved::append)), |case| keep(case.append(second::issue::append))),
 ];
 
-fn offer(case: &mut Case, call: Offer) {
+fn drop_entries(case: &mut Case, call: DropEntries) {
     let pool = case.pool.clone();
-    keep(case.offer(call));
+    keep(case.drop_entries(call));
+    case.pool = pool;
+}
+
+fn add_order(case: &mut Case, call: AddOrder) {
+    let pool = case.pool.clone();
+    keep(case.add_order(call));
     case.pool = pool;
 }
 

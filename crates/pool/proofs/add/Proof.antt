@@ -1,11 +1,11 @@
--- `pool::offer` meets its contract.
+-- `pool::add` meets its contract.
 -- Assumes nothing.
 use mathlib.Core.Path.{sym, ap, _∙_}
 use borrow.Author.Tests.{not-true, not-false}
 use borrow.Author.Needs.{needs}
 use Rattle.pool.specs.Answers.{poolOr}
-use Rattle.pool.proofs.offer.Statement.{statement}
-use Rattle.pool.proofs.offer.Tie as tie
+use Rattle.pool.proofs.add.Statement.{statement}
+use Rattle.pool.proofs.add.Tie as tie
 
 hold-requires : tie.Need-hold-requires
 hold-requires c κs = search needs
@@ -19,8 +19,8 @@ refused-requires c κs = search needs
 enum-told : tie.Need-enum-told
 enum-told c = search needs
 
-fits-requires : tie.Need-fits-requires
-fits-requires c κs = search needs
+present-fits-requires : tie.Need-present-fits-requires
+present-fits-requires c κs = search needs
 
 refused-requires-2 : tie.Need-refused-requires-2
 refused-requires-2 c κs = search needs
@@ -28,14 +28,11 @@ refused-requires-2 c κs = search needs
 returns : tie.Need-returns
 returns c =
     let told = sym (rw (c .before .before .before .enum-told .given .1) at (c .before .before .before .before .before .before .before .hold .ensures .0)) in
-    let bad = sym (c .before .before .fits2 .ensures) ∙ not-true _ (c .before .if1 .taken) in
+    let bad = sym (c .before .before .present-fits .ensures) ∙ not-true _ (c .before .if1 .taken) in
     (c .refused2 .ensures .0 ∙ rw (told, bad), c .refused2 .ensures .1 ∙ rw (told, bad))
 
-counting-requires : tie.Need-counting-requires
-counting-requires c κs = search needs
-
 join-requires : tie.Need-join-requires
-join-requires c κs = (c .counting .ensures, sym (c .before .before .fits2 .ensures) ∙ not-false _ (c .before .if1 .left))
+join-requires c κs = sym (c .before .present-fits .ensures) ∙ not-false _ (c .if1 .left)
 
 returns-2 : tie.Need-returns-2
 returns-2 c =
@@ -44,22 +41,21 @@ returns-2 c =
 
 returns-3 : tie.Need-returns-3
 returns-3 c =
-    let told = sym (rw (c .before .before .before .before .enum-told .given .1) at (c .before .before .before .before .before .before .before .before .hold .ensures .0)) in
-    let fine = sym (c .before .before .before .fits2 .ensures) ∙ not-false _ (c .before .before .if1 .left) in
+    let told = sym (rw (c .before .before .before .enum-told .given .1) at (c .before .before .before .before .before .before .before .hold .ensures .0)) in
+    let fine = sym (c .before .before .present-fits .ensures) ∙ not-false _ (c .before .if1 .left) in
     (c .join .ensures .0 ∙ rw (told, fine), c .join .ensures .1 ∙ ap (poolOr _) (c .join .ensures .0) ∙ rw (told, fine))
 
-pub offer-spec : {M : Type 1} → statement M
-offer-spec =
+pub add-spec : {M : Type 1} → statement M
+add-spec =
     tie.close
     (tie.spec
     hold-requires
     enum-known-answer
     refused-requires
     enum-told
-    fits-requires
+    present-fits-requires
     refused-requires-2
     returns
-    counting-requires
     join-requires
     returns-2
     returns-3)
