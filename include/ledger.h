@@ -53,7 +53,7 @@ extern "C" {
 #endif
 
 /* The interface's version: it changes with every declaration of this header that changes. */
-#define LEDGER_VERSION 5
+#define LEDGER_VERSION 6
 
 /* Limits. */
 #define LEDGER_DISPLAYS 64           /* displays are 0 to 63 */
@@ -63,7 +63,7 @@ extern "C" {
 #define LEDGER_POOL_ROOM 64          /* the most entries of a pool */
 #define LEDGER_DEPOTS 4              /* depots are 0 to 3 */
 #define LEDGER_DEPOT_ROOM 16         /* the most entries of one depot: for ledger_add_order of all, for every other call of those that count */
-#define LEDGER_POOL_SLOTS 64         /* the most slots that an order stays pooled: u is 1 to 64 */
+#define LEDGER_POOL_SLOTS 64         /* u is 1 to 64, and new tables have 64. It has no effect */
 #define LEDGER_NUMBER_BYTES 5        /* the most bytes of a number */
 #define LEDGER_LARGEST UINT64_C(34359738367) /* the largest number, and the largest release: 35 bits */
 #define LEDGER_KEY_BYTES 32
@@ -98,14 +98,14 @@ extern "C" {
 #define LEDGER_STACK_SLOT_TEXT 256
 #define LEDGER_STACK_WALK_STEP 3072
 #define LEDGER_STACK_CHECK 7936
-#define LEDGER_STACK_CHOOSE 15616
-#define LEDGER_STACK_ADOPT 15616
-#define LEDGER_STACK_DROP_ENTRIES 21248
-#define LEDGER_STACK_ADD_ORDER 29440
-#define LEDGER_STACK_DRAFT 25856
-#define LEDGER_STACK_BLOCK_TEXT 25856
-#define LEDGER_STACK_APPEND 26368
-#define LEDGER_STACK_REPORT 15360
+#define LEDGER_STACK_CHOOSE 12544
+#define LEDGER_STACK_ADOPT 12800
+#define LEDGER_STACK_DROP_ENTRIES 23808
+#define LEDGER_STACK_ADD_ORDER 27136
+#define LEDGER_STACK_DRAFT 23040
+#define LEDGER_STACK_BLOCK_TEXT 23040
+#define LEDGER_STACK_APPEND 23296
+#define LEDGER_STACK_REPORT 12544
 
 /* Refusal numbers. */
 enum ledger_refusal {
@@ -179,7 +179,8 @@ typedef struct {
     uint32_t depot;
 } ledger_entry;
 
-/* The first `count` entries are meant. A pool of no entries is all zeros. */
+/* The first `count` entries are meant. A pool of no entries is all zeros. An entry counts while its display's settled release, settled at now over
+   the held chain, is not above the release that it expects. */
 typedef struct {
     uint32_t count;
     ledger_entry entries[LEDGER_POOL_ROOM];
@@ -189,7 +190,7 @@ typedef struct {
     uint8_t bytes[LEDGER_SIGNATURE_BYTES];
 } ledger_signature;
 
-/* A genesis table: n controllers, of whom t may be faulty (n is at least 3t + 1), and u slots that an order stays pooled. */
+/* A genesis table: n controllers, of whom t may be faulty (n is at least 3t + 1), and u, which is 1 to 64 and has no effect. */
 typedef struct {
     uint32_t n;
     uint32_t t;
@@ -340,12 +341,13 @@ ledger_adopt_answer ledger_adopt(const uint8_t *genesis, size_t genesis_length, 
 /* Pooling is two calls, and the two are not one: what ledger_drop_entries has dropped stays dropped, also where ledger_add_order then refuses the
    order. Of both the answer's pool takes the old one's place. */
 
-/* Drops the entries that no longer count, at each slot, or before an order is added: 1, 2, 18. */
-ledger_pool_answer ledger_drop_entries(const uint8_t *genesis, size_t genesis_length, ledger_slot clock, ledger_pool pool);
+/* Drops the entries that no longer count, at each slot, or before an order is added: 1, 2, 17, 18. None of them could become valid again in a chain
+   that goes on from the settled blocks. */
+ledger_pool_answer ledger_drop_entries(const uint8_t *genesis, size_t genesis_length, ledger_slot clock, const uint8_t *held,
+                                       size_t held_room, size_t length, ledger_pool pool);
 
 /* Adds an order of a depot behind all entries, and drops none: 1, 2, 17, 18, 5, 14, 20, 13. Entries that no longer count stay in their places and
-   take room, but are not applied where the order is judged (14). A depot that has LEDGER_DEPOT_ROOM entries is refused (20), whatever the others
-   have. */
+   take room. A depot that has LEDGER_DEPOT_ROOM entries is refused (20), whatever the others have. */
 ledger_pool_answer ledger_add_order(const uint8_t *genesis, size_t genesis_length, ledger_slot clock, const uint8_t *held,
                                     size_t held_room, size_t length, ledger_pool pool, ledger_order order, uint32_t depot);
 

@@ -79,7 +79,7 @@ static int tables(void) {
     size_t length = genesis_of(genesis);
     ledger_genesis_answer read = ledger_read_genesis(genesis, length);
     EXPECT(read.refusal == 0 && read.place.number == 0);
-    EXPECT(read.table.n == 6 && read.table.t == 1 && read.table.u == 5);
+    EXPECT(read.table.n == 6 && read.table.t == 1 && read.table.u == LEDGER_POOL_SLOTS);
     EXPECT(read.table.releases[1] == 0 && read.table.releases[2] == 40 && read.table.releases[63] == 0);
     EXPECT(read.table.keys_at == length - 6 * LEDGER_KEY_BYTES);
     EXPECT(ledger_read_genesis(genesis, length - 1).refusal == LEDGER_BAD_GENESIS);
@@ -143,7 +143,7 @@ static int a_large_start(void) {
     const uint8_t key[LEDGER_KEY_BYTES] = {0};
     const ledger_slot now = {1};
     uint8_t genesis[LEDGER_GENESIS_BYTES];
-    size_t length = ledger_write_genesis(1, 0, 1, releases, key, sizeof key, genesis).length;
+    size_t length = ledger_write_genesis(1, 0, releases, key, sizeof key, genesis).length;
     EXPECT(length == 3 + 63 + 5 + 32 && ledger_read_genesis(genesis, length).table.releases[63] == LEDGER_LARGEST);
     EXPECT(ledger_check(genesis, length, now, NULL, 0, NULL, 0).releases[63] == LEDGER_LARGEST);
     EXPECT(ledger_report(genesis, length, now, NULL, 0, 0).releases[63] == LEDGER_LARGEST);
@@ -285,29 +285,32 @@ static int depots(const struct chain *c) {
     return 0;
 }
 
-/* Seen from slot 25, of two orders of slots 20 and 21 the first no longer counts: u is 5. Adding leaves it where it is, and does not apply it;
-   dropping takes it away, and leaves zeros. Both keep a bad pool as it came. */
+/* Display 2 goes to 41 in slot 1, which is settled from slot 6 on, and to 42 in slot 3, which is from slot 8 on: so in slot 7 an entry that expects
+   40 no longer counts, and one that expects 41 does, though it is not valid. Adding leaves both where they are; dropping takes the first away, and
+   leaves zeros. A bad pool stays as it came. */
 static int drops(const struct chain *c) {
-    const ledger_slot now = {25};
+    const ledger_slot now = {7};
     const uint8_t *genesis = c->genesis;
     const size_t n = c->genesis_length;
-    const ledger_order order = {.display = 2, .expected = 43, .new_release = 44}, other = {.display = 2, .expected = 42, .new_release = 50};
+    const ledger_order order = {.display = 2, .expected = 42, .new_release = 50};
     ledger_pool pool;
     memset(&pool, 0, sizeof pool);
     pool.count = 2;
-    pool.entries[0] = (ledger_entry){.order = {.display = 2, .expected = 42, .new_release = 43}, .slot = {20}, .depot = 1};
-    pool.entries[1] = (ledger_entry){.order = {.display = 3, .expected = 0, .new_release = 1}, .slot = {21}, .depot = 2};
+    pool.entries[0] = (ledger_entry){.order = {.display = 2, .expected = 40, .new_release = 43}, .slot = {7}, .depot = 1};
+    pool.entries[1] = (ledger_entry){.order = {.display = 2, .expected = 41, .new_release = 44}, .slot = {2}, .depot = 2};
     pool.entries[5].depot = 9;
-    EXPECT(ledger_add_order(genesis, n, now, c->bytes, sizeof c->bytes, c->length, pool, order, 3).refusal == LEDGER_BAD_OFFER);
-    ledger_pool_answer answer = ledger_add_order(genesis, n, now, c->bytes, sizeof c->bytes, c->length, pool, other, 3);
+    ledger_pool_answer answer = ledger_add_order(genesis, n, now, c->bytes, sizeof c->bytes, c->length, pool, order, 3);
     EXPECT(answer.refusal == 0 && answer.pool.count == 3 && same_entry(answer.pool.entries[0], pool.entries[0]));
-    EXPECT(same_entry(answer.pool.entries[2], (ledger_entry){.order = other, .slot = now, .depot = 3}) && answer.pool.entries[5].depot == 0);
-    answer = ledger_drop_entries(genesis, n, now, pool);
+    EXPECT(same_entry(answer.pool.entries[2], (ledger_entry){.order = order, .slot = now, .depot = 3}) && answer.pool.entries[5].depot == 0);
+    answer = ledger_drop_entries(genesis, n, now, c->bytes, sizeof c->bytes, c->length, pool);
     EXPECT(answer.refusal == 0 && answer.place.number == 0 && answer.pool.count == 1 && same_entry(answer.pool.entries[0], pool.entries[1]));
     EXPECT(same_entry(answer.pool.entries[1], pool.entries[2]) && answer.pool.entries[5].depot == 0);
-    EXPECT(ledger_drop_entries(NULL, 0, now, pool).refusal == LEDGER_BAD_GENESIS);
-    EXPECT(ledger_drop_entries(genesis, n, (ledger_slot){257}, pool).refusal == LEDGER_BAD_CLOCK);
-    answer = ledger_drop_entries(genesis, n, (ledger_slot){20}, pool);
+    EXPECT(ledger_drop_entries(genesis, n, (ledger_slot){8}, c->bytes, sizeof c->bytes, c->length, pool).pool.count == 0);
+    EXPECT(ledger_drop_entries(genesis, n, (ledger_slot){8}, c->bytes, sizeof c->bytes, 0, pool).pool.count == 2);
+    EXPECT(ledger_drop_entries(genesis, n, (ledger_slot){257}, c->bytes, sizeof c->bytes, c->length, pool).refusal == LEDGER_BAD_CLOCK);
+    answer = ledger_drop_entries(genesis, n, now, c->bytes, sizeof c->bytes, c->length - 1, pool);
+    EXPECT(answer.refusal == LEDGER_BAD_HELD && answer.place.number == 2 && same_pool(&answer.pool, &pool));
+    answer = ledger_drop_entries(genesis, n, (ledger_slot){6}, c->bytes, sizeof c->bytes, c->length, pool);
     EXPECT(answer.refusal == LEDGER_BAD_POOL && answer.place.number == 0 && same_pool(&answer.pool, &pool));
     return 0;
 }
@@ -378,6 +381,8 @@ static int nothing_held(const struct chain *c) {
     ledger_order order = {.display = 2, .expected = 40, .new_release = 41};
     ledger_signature sign;
     memset(&sign, 0x51, sizeof sign);
+    EXPECT(ledger_drop_entries(NULL, 0, now, NULL, 0, 0, pool).refusal == LEDGER_BAD_GENESIS);
+    EXPECT(ledger_drop_entries(genesis, n, now, NULL, 0, 0, pool).refusal == 0);
     EXPECT(ledger_add_order(NULL, 0, now, NULL, 0, 0, pool, order, 0).refusal == LEDGER_BAD_GENESIS);
     EXPECT(ledger_add_order(genesis, n, now, NULL, 0, 0, pool, order, 0).pool.count == 1);
     EXPECT(ledger_draft(NULL, 0, now, NULL, 0, 0, pool, 2, sign, NULL, 0).refusal == LEDGER_BAD_GENESIS);

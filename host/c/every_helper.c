@@ -6,7 +6,7 @@
 #define BLOCKS 4
 #define FILLER 0xEE
 
-/* A station of n = 6, t = 1 and u = 5, and a chain that its controllers 1 to 4 have issued in slots 1 to 4. It ends in its first k blocks at
+/* A station of n = 6 and t = 1, and a chain that its controllers 1 to 4 have issued in slots 1 to 4. It ends in its first k blocks at
    end[k]. */
 static uint8_t chain[BLOCKS * LEDGER_BLOCK_BYTES];
 static size_t end[BLOCKS + 1];
@@ -55,18 +55,18 @@ static size_t issued(uint8_t *held, size_t room, size_t length, ledger_slot slot
 }
 
 static void make_station(void) {
-    make_genesis(6, 1, 5);
+    make_genesis(6, 1);
     for (uint32_t k = 0; k < BLOCKS; k++)
         end[k + 1] = issued(chain, sizeof chain, end[k], (ledger_slot){k + 1}, k + 1);
 }
 
-/* 01's worked example: n = 1, t = 0, u = 1, display 0 at release 7, the others 0, a key of zeros; 99 bytes. */
+/* 01's worked example but for u, which is 64 in a new table: n = 1, t = 0, display 0 at release 7, the others 0, a key of zeros; 99 bytes. */
 static int a_genesis(void) {
     uint8_t out[LEDGER_GENESIS_BYTES];
-    const uint8_t expected[99] = {1, 0, 1, 7}, key[LEDGER_KEY_BYTES] = {0};
+    const uint8_t expected[99] = {1, 0, 64, 7}, key[LEDGER_KEY_BYTES] = {0};
     uint64_t releases[LEDGER_DISPLAYS] = {7};
     memset(out, FILLER, sizeof out);
-    ledger_made_genesis made = ledger_write_genesis(1, 0, 1, releases, key, sizeof key, out);
+    ledger_made_genesis made = ledger_write_genesis(1, 0, releases, key, sizeof key, out);
     EXPECT(made.broken == NULL && made.length == 99 && memcmp(out, expected, 99) == 0 && out[99] == FILLER);
     EXPECT(ledger_broken_rule(out, 99) == NULL);
     return 0;
@@ -80,7 +80,7 @@ static int the_longest_genesis(void) {
     for (int i = 0; i < LEDGER_DISPLAYS; i++)
         releases[i] = LEDGER_LARGEST;
     memset(most, 0x4B, sizeof most);
-    ledger_made_genesis made = ledger_write_genesis(31, 10, 64, releases, most[0], sizeof most, out);
+    ledger_made_genesis made = ledger_write_genesis(31, 10, releases, most[0], sizeof most, out);
     EXPECT(made.broken == NULL && made.length == 3 + 64 * 5 + 31 * 32);
     ledger_genesis_answer read = ledger_read_genesis(out, made.length);
     EXPECT(read.refusal == 0 && read.table.n == 31 && read.table.t == 10 && read.table.u == 64);
@@ -93,7 +93,7 @@ static int a_branch_station(void) {
     uint8_t out[LEDGER_GENESIS_BYTES];
     const uint8_t four_keys[4 * LEDGER_KEY_BYTES] = {0};
     const uint64_t releases[LEDGER_DISPLAYS] = {0};
-    ledger_made_genesis made = ledger_write_genesis(4, 1, 1, releases, four_keys, sizeof four_keys, out);
+    ledger_made_genesis made = ledger_write_genesis(4, 1, releases, four_keys, sizeof four_keys, out);
     EXPECT(made.broken == NULL && made.length == 3 + 64 + 4 * 32);
     ledger_genesis_answer read = ledger_read_genesis(out, made.length);
     EXPECT(read.refusal == 0 && read.table.n == 4 && read.table.t == 1 && ledger_depth(read.table) == 10);
@@ -106,25 +106,23 @@ static int no_genesis(void) {
     uint8_t out[LEDGER_GENESIS_BYTES];
     const uint64_t releases[LEDGER_DISPLAYS] = {0};
     const struct {
-        uint32_t n, t, u;
+        uint32_t n, t;
         size_t keys_length;
         const char *broken;
     } cases[] = {
-        {0, 0, 1, 0, "n is not 1 to 31"},
-        {32, 0, 1, 32 * 32, "n is not 1 to 31"},
-        {3, 1, 1, 3 * 32, "n is below 3t + 1"},
-        {30, 10, 1, 30 * 32, "n is below 3t + 1"},
-        {31, 11, 1, 31 * 32, "n is below 3t + 1"},
-        {31, 1431655765, 1, 31 * 32, "n is below 3t + 1"}, /* 3t + 1 is 0 in 32 bits */
-        {6, 1, 0, 6 * 32, "u is not 1 to 64"},
-        {6, 1, 65, 6 * 32, "u is not 1 to 64"},
-        {6, 1, 1, 6 * 32 - 1, "the keys are not 32 bytes for each controller"},
-        {6, 1, 1, 6 * 32 + 1, "the keys are not 32 bytes for each controller"},
-        {6, 1, 1, 0, "the keys are not 32 bytes for each controller"},
+        {0, 0, 0, "n is not 1 to 31"},
+        {32, 0, 32 * 32, "n is not 1 to 31"},
+        {3, 1, 3 * 32, "n is below 3t + 1"},
+        {30, 10, 30 * 32, "n is below 3t + 1"},
+        {31, 11, 31 * 32, "n is below 3t + 1"},
+        {31, 1431655765, 31 * 32, "n is below 3t + 1"}, /* 3t + 1 is 0 in 32 bits */
+        {6, 1, 6 * 32 - 1, "the keys are not 32 bytes for each controller"},
+        {6, 1, 6 * 32 + 1, "the keys are not 32 bytes for each controller"},
+        {6, 1, 0, "the keys are not 32 bytes for each controller"},
     };
     memset(out, FILLER, sizeof out);
     for (size_t i = 0; i < sizeof cases / sizeof *cases; i++) {
-        ledger_made_genesis made = ledger_write_genesis(cases[i].n, cases[i].t, cases[i].u, releases, any_keys, cases[i].keys_length, out);
+        ledger_made_genesis made = ledger_write_genesis(cases[i].n, cases[i].t, releases, any_keys, cases[i].keys_length, out);
         EXPECT(made.broken != NULL && strcmp(made.broken, cases[i].broken) == 0 && made.length == 0 && out[0] == FILLER);
     }
     return 0;
@@ -138,7 +136,7 @@ static int no_large_release(void) {
     for (int i = 0; i < LEDGER_DISPLAYS; i++) {
         uint64_t releases[LEDGER_DISPLAYS] = {0};
         releases[i] = i % 2 == 0 ? LEDGER_LARGEST + 1 : UINT64_MAX;
-        ledger_made_genesis made = ledger_write_genesis(1, 0, 1, releases, key, sizeof key, out);
+        ledger_made_genesis made = ledger_write_genesis(1, 0, releases, key, sizeof key, out);
         EXPECT(made.broken != NULL && strcmp(made.broken, "a release is above 34359738367") == 0 && made.length == 0 && out[0] == FILLER);
     }
     return 0;

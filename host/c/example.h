@@ -35,11 +35,11 @@ static size_t genesis_length;
 static uint8_t keys[MOST_CONTROLLERS][LEDGER_KEY_BYTES];
 
 /* A table in which display 4 starts at release 7. The keys are made up. */
-static inline void make_genesis(uint32_t n, uint32_t t, uint32_t u) {
+static inline void make_genesis(uint32_t n, uint32_t t) {
     const uint64_t releases[LEDGER_DISPLAYS] = {[DISPLAY] = 7};
     for (uint8_t i = 0; i < MOST_CONTROLLERS; i++)
         memset(keys[i], i + 1, LEDGER_KEY_BYTES);
-    ledger_made_genesis made = ledger_write_genesis(n, t, u, releases, keys[0], n * LEDGER_KEY_BYTES, genesis);
+    ledger_made_genesis made = ledger_write_genesis(n, t, releases, keys[0], n * LEDGER_KEY_BYTES, genesis);
     expect(made.broken == NULL ? "a genesis" : made.broken, made.broken == NULL);
     genesis_length = made.length;
 }

@@ -21,10 +21,10 @@ static bool releases_fit(const uint64_t releases[LEDGER_DISPLAYS]) {
     return true;
 }
 
-ledger_made_genesis ledger_write_genesis(uint32_t n, uint32_t t, uint32_t u, const uint64_t releases[LEDGER_DISPLAYS], const uint8_t *keys,
-                                         size_t keys_length, uint8_t out[LEDGER_GENESIS_BYTES]) {
-    const uint32_t head[3] = {n, t, u};
-    ledger_made_genesis made = {broken_limit(n, t, u), 0};
+ledger_made_genesis ledger_write_genesis(uint32_t n, uint32_t t, const uint64_t releases[LEDGER_DISPLAYS], const uint8_t *keys, size_t keys_length,
+                                         uint8_t out[LEDGER_GENESIS_BYTES]) {
+    const uint32_t head[3] = {n, t, LEDGER_POOL_SLOTS};
+    ledger_made_genesis made = {broken_limit(n, t, LEDGER_POOL_SLOTS), 0};
     if (made.broken == NULL && !releases_fit(releases))
         made.broken = "a release is above 34359738367";
     if (made.broken == NULL && keys_length != (size_t)n * LEDGER_KEY_BYTES)

@@ -34,10 +34,10 @@ typedef struct {
     size_t length;      /* of the genesis; 0 where a rule is broken */
 } ledger_made_genesis;
 
-/* Writes the genesis of n controllers, of whom t may be faulty, and u slots that an order stays pooled. The keys are 32 bytes for each
+/* Writes the genesis of n controllers, of whom t may be faulty. Its u, which has no effect, is LEDGER_POOL_SLOTS. The keys are 32 bytes for each
    controller, end to end, from controller 1 on. Where a rule is broken nothing is written. */
-ledger_made_genesis ledger_write_genesis(uint32_t n, uint32_t t, uint32_t u, const uint64_t releases[LEDGER_DISPLAYS], const uint8_t *keys,
-                                         size_t keys_length, uint8_t out[LEDGER_GENESIS_BYTES]);
+ledger_made_genesis ledger_write_genesis(uint32_t n, uint32_t t, const uint64_t releases[LEDGER_DISPLAYS], const uint8_t *keys, size_t keys_length,
+                                         uint8_t out[LEDGER_GENESIS_BYTES]);
 
 /* The rule that genesis bytes break, in words: what stands behind LEDGER_BAD_GENESIS. NULL exactly if ledger_read_genesis accepts them. */
 const char *ledger_broken_rule(const uint8_t *genesis, size_t genesis_length);

@@ -52,7 +52,7 @@ static void deliver(ledger_slot now) {
 
 /* The pool that is answered takes the old one's place, on a refusal too: then it is the old one. */
 static ledger_pool_answer clear(controller *c, ledger_slot now) {
-    ledger_pool_answer dropped = ledger_drop_entries(genesis, genesis_length, now, c->pool);
+    ledger_pool_answer dropped = ledger_drop_entries(genesis, genesis_length, now, c->held, sizeof c->held, c->length, c->pool);
     c->pool = dropped.pool;
     return dropped;
 }
@@ -200,7 +200,7 @@ static void comes_back(void) {
 }
 
 int main(void) {
-    make_genesis(6, 1, 5); /* n, t and u */
+    make_genesis(6, 1); /* n and t */
     damaged_chain();
     damaged_pool();
     restarts();

@@ -6,13 +6,13 @@
 
 #include <string.h>
 
-/* A genesis of n = 6, t = 1 and u = 5, with display 2 at release 40: its length. */
+/* A genesis of n = 6 and t = 1, with display 2 at release 40: its length. */
 static inline size_t genesis_of(uint8_t out[LEDGER_GENESIS_BYTES]) {
     const uint64_t releases[LEDGER_DISPLAYS] = {[2] = 40};
     uint8_t keys[6][LEDGER_KEY_BYTES];
     for (uint8_t i = 0; i < 6; i++)
         memset(keys[i], i + 1, LEDGER_KEY_BYTES);
-    return ledger_write_genesis(6, 1, 5, releases, keys[0], sizeof keys, out).length;
+    return ledger_write_genesis(6, 1, releases, keys[0], sizeof keys, out).length;
 }
 
 /* A block at a slot that takes display 2 one release on, with the digest of the bytes before it as its link. */

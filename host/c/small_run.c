@@ -36,7 +36,7 @@ static void deliver(controller *to, const controller *from, ledger_slot now) {
 /* Orders that no longer count are dropped. A host does this in each slot, or as here before it adds one. The pool that comes back takes the old one's
    place, whatever becomes of the order. */
 static void clear(controller *c, ledger_slot now) {
-    ledger_pool_answer dropped = ledger_drop_entries(genesis, genesis_length, now, c->pool);
+    ledger_pool_answer dropped = ledger_drop_entries(genesis, genesis_length, now, c->held, sizeof c->held, c->length, c->pool);
     accepted("drop", dropped.refusal, dropped.place);
     c->pool = dropped.pool;
 }
@@ -82,7 +82,7 @@ static void reports(ledger_slot now) {
 
 /* In each slot the deliveries come first, then the block of the controller whose turn it is. */
 int main(void) {
-    make_genesis(2, 0, 3); /* n, t and u */
+    make_genesis(2, 0); /* n and t */
     ledger_slot now = {1};
     offer(&one, now, 7, 8);
     issue(&one, now);

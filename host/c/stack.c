@@ -68,7 +68,7 @@ static void choose(void) { refusal = ledger_choose(G, now, held, sample.first, s
 static void adopt(void) {
     refusal = ledger_adopt(G, now, held, sizeof held, sample.first, sample.bytes, sample.length, good, 2).refusal;
 }
-static void drop_entries(void) { refusal = ledger_drop_entries(G, now, pool).refusal; }
+static void drop_entries(void) { refusal = ledger_drop_entries(G, now, HELD, pool).refusal; }
 static void add_order(void) { refusal = ledger_add_order(G, now, HELD, pool, order, 0).refusal; }
 static void draft(void) { refusal = ledger_draft(G, now, HELD, pool, 2, signature, out, sizeof out).refusal; }
 static void block_text(void) { refusal = ledger_block_text(G, now, HELD, pool, 2, signature, out, sizeof out).refusal; }

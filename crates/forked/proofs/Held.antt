@@ -95,9 +95,9 @@ module _ (k : ℕ) (few : k < 6) (s : Node) (blocks others : List Parts) (st : S
     pool = st .pool;
   }
 
-taken-none : (o : Opened) (h : Summary) → taken o h (poolOf []) ≡ []
+taken-none : (h : Summary) → taken h (poolOf []) ≡ []
 unfolding taking
-taken-none o h = refl
+taken-none h = refl
 
 -- issuing: one block more
 module _ (k : ℕ) (few : k < 5) (s : Node) (st : State (suc (suc k)) s (chain k)) where
@@ -122,9 +122,9 @@ module _ (k : ℕ) (few : k < 5) (s : Node) (st : State (suc (suc k)) s (chain k
       let h = issuing.held-now genesis table (suc (suc k)) s (chain k) issuer in
       let linked : h .summary .whole .link ≡ link (suc k) =
       ap (λ (q : Standing). q .link) (gives-same (sym (h .accepted .whole) ∙ stands k .is)) ∙ stands k .linked in
-      let orders : taken (opening genesis table (suc (suc k))) (h .summary) (s .pool) ≡ [] =
-      subst (λ (p : Pool). taken (opening genesis table (suc (suc k))) (h .summary) p ≡ []) (sym (st .pool))
-      (taken-none (opening genesis table (suc (suc k))) (h .summary)) in
+      let orders : taken (h .summary) (s .pool) ≡ [] =
+      subst (λ (p : Pool). taken (h .summary) p ≡ []) (sym (st .pool))
+      (taken-none (h .summary)) in
       λ j. record { link = linked j; orders = orders j; slot = suc (suc k); slotSignature = signature; blockSignature = seal }
 
   abbrev issuedNode : Node

@@ -52,7 +52,7 @@ module _ (o : Opened) (buffer : List ℕ) (size : ℕ) (h : Summary) (bytes : By
     length = h .whole .length + length (blockBytes p);
     stamp = record { 0 = o .clock .0 };
     link = linkOf (blockBytes p);
-    releases = taking 8 (h .whole .releases) (ordersOf (counting o h pool)) .releases;
+    releases = taking 8 (h .whole .releases) (ordersOf (counting h pool)) .releases;
   }
 
   abbrev pub summary : Summary

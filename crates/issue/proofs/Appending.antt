@@ -80,7 +80,7 @@ followed-digest (p ∷ rest) s after d e =
 abbrev pub nextParts : Opened → Summary → Pool → List ℕ → List ℕ → Parts
 nextParts o held pool signature seal = record {
   link = held .whole .link;
-  orders = taken o held pool;
+  orders = taken held pool;
   slot = o .clock .0;
   slotSignature = signature;
   blockSignature = seal;
@@ -98,7 +98,7 @@ pub append-writes : (o : Opened) (held : Summary) (pool : Pool) (signature seal 
     → appendBytes seal (nextFront o held pool signature) ≡ blockBytes (nextParts o held pool signature seal)
 unfolding blockBytes
 append-writes o held pool signature seal =
-    ap (λ (l : List Order). frontBytes (held .whole .link) l (o .clock .0) signature ++ seal) (take-append-seam (taken o held pool) _)
+    ap (λ (l : List Order). frontBytes (held .whole .link) l (o .clock .0) signature ++ seal) (take-append-seam (taken held pool) _)
 
 -- it follows the held chain
 pub next-follows : (o : Opened) (held : Summary) (pool : Pool) (signature seal : List ℕ) → held .whole .stamp .0 < o .clock .0
@@ -109,7 +109,7 @@ pub next-follows : (o : Opened) (held : Summary) (pool : Pool) (signature seal :
       length = held .whole .length + length (blockBytes (nextParts o held pool signature seal));
       stamp = record { 0 = o .clock .0 };
       link = linkOf (blockBytes (nextParts o held pool signature seal));
-      releases = taking 8 (held .whole .releases) (ordersOf (counting o held pool)) .releases;
+      releases = taking 8 (held .whole .releases) (ordersOf (counting held pool)) .releases;
     })
 unfolding follows
 next-follows o held pool signature seal later =
@@ -121,7 +121,7 @@ pub next-parts-fit : (o : Opened) (held : Summary) (pool : Pool) (signature seal
 next-parts-fit o held pool signature seal digest given fits clock = record {
   link-size = digest .size;
   link-bytes = digest .bytes;
-  count = within-here 0 8 (length (taken o held pool)) zero-le (taken-fine o held pool .few);
+  count = within-here 0 8 (length (taken held pool)) zero-le (taken-fine o held pool .few);
   orders = taken-in-range o held pool fits;
   slot = clock;
   slot-signature-size = given .signature-size;

@@ -68,16 +68,16 @@ eight-of d l few =
     ∙ ap (λ rest. l ++ rest) (take-replicate (8 - length l) (64 - length l) d (omega arith))
 
 module _ (o : Opened) (held : Summary) (pool : Pool) where
-  pub taken-fine : Fine 8 (held .whole .releases) (taking 8 (held .whole .releases) (ordersOf (counting o held pool)))
-  taken-fine = taking-fine 8 (held .whole .releases) (ordersOf (counting o held pool))
+  pub taken-fine : Fine 8 (held .whole .releases) (taking 8 (held .whole .releases) (ordersOf (counting held pool)))
+  taken-fine = taking-fine 8 (held .whole .releases) (ordersOf (counting held pool))
 
   module _ (fits : poolFits o held pool ≡ true) where
-    pub taken-in-range : Each OrderFits (taken o held pool)
-    taken-in-range = taking-each OrderFits 8 (held .whole .releases) (ordersOf (counting o held pool)) (counting-in-range o held pool fits)
+    pub taken-in-range : Each OrderFits (taken held pool)
+    taken-in-range = taking-each OrderFits 8 (held .whole .releases) (ordersOf (counting held pool)) (counting-in-range o held pool fits)
 
     pub next-fits : (signature : List ℕ) → within 1 256 (o .clock .0) ≡ true → frontFits (nextFront o held pool signature) ≡ true
     next-fits signature slot =
-        let l = taken o held pool in
+        let l = taken held pool in
         let all : every orderInRange (unlisted (listed l)) ≡ true =
         ap (every orderInRange) (take-append-seam l _) ∙ each-every orderInRange l taken-in-range in
         rw (le-leb (length l) 8 (taken-fine .few), all) slot

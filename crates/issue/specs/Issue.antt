@@ -23,14 +23,14 @@ abbrev pub mayIssue : Opened → ℕ → Bool
 mayIssue o controller = both (within 1 (o .table .n) controller) (eqb (turn (o .table) (o .clock .0)) controller)
 
 -- the orders of the next block
-abbrev pub taken : Opened → Summary → Pool → List Order
-taken o held pool = taking 8 (held .whole .releases) (ordersOf (counting o held pool)) .orders
+abbrev pub taken : Summary → Pool → List Order
+taken held pool = taking 8 (held .whole .releases) (ordersOf (counting held pool)) .orders
 
 -- the next block without its last 64 bytes: draft, block text and append share it
 abbrev pub nextFront : Opened → Summary → Pool → List ℕ → Front
 nextFront o held pool signature = record {
   link = held .whole .link;
-  orders = listed (taken o held pool);
+  orders = listed (taken held pool);
   slot = o .clock;
   «slot_signature» = signature;
 }

@@ -78,7 +78,7 @@ fn next_front(opened: Opened, held: Summary, pool: Pool, signature: [u8; 64]) ->
     let whole = held.whole;
     let link = whole.link;
     let releases = whole.releases;
-    let kept = pool::counting(opened, held, pool);
+    let kept = pool::counting(held, pool);
     let taken = pool::take(kept, releases, ORDERS);
     let orders = taken.orders;
     let list = first_eight(orders);

@@ -32,10 +32,16 @@ pub struct IssueAnswer {
 }
 
 #[no_mangle]
-pub extern "C" fn ledger_drop_entries(genesis: &[u8], clock: Slot, pool: Pool) -> PoolAnswer
-    ensures { λ r. ⌜ r ≡ poolAnswer pool (dropped (now (genesis .entry)) (clock .0) pool) ⌝ }
+pub extern "C" fn ledger_drop_entries(
+    genesis: &[u8],
+    clock: Slot,
+    held: &[u8],
+    length: usize,
+    pool: Pool,
+) -> PoolAnswer
+    ensures { λ r. ⌜ r ≡ poolAnswer pool (dropped (now (genesis .entry)) (clock .0) (now (held .entry)) length pool) ⌝ }
 {
-    let pooled = pool::drop(genesis, clock, pool);
+    let pooled = pool::drop(genesis, clock, held, length, pool);
     let answer = pooled.answer;
     let after = pooled.pool;
     PoolAnswer {

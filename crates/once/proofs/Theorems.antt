@@ -123,8 +123,6 @@ use Rattle.number.proofs.write.Kinds as number-write-number-kinds
 use Rattle.number.proofs.write.Reads as number-write-number
 use Rattle.order.proofs.earlier.Kinds as order-earlier-kinds
 use Rattle.order.proofs.earlier.Reads as order-earlier
-use Rattle.order.proofs.fewer_slots_ago.Kinds as order-fewer-slots-ago-kinds
-use Rattle.order.proofs.fewer_slots_ago.Reads as order-fewer-slots-ago
 use Rattle.order.proofs.more.Kinds as order-more-kinds
 use Rattle.order.proofs.more.Reads as order-more
 use Rattle.order.proofs.more_slots_ago.Kinds as order-more-slots-ago-kinds
@@ -216,9 +214,6 @@ earlier-answers-once κs a x y s t p q = p ∙ sym q
 
 pub more-slots-ago-answers-once : OneAnswer 0 order-more-slots-ago-kinds.ps order-more-slots-ago-kinds.r order-more-slots-ago.Post
 more-slots-ago-answers-once κs a x y s t p q = p ∙ sym q
-
-pub fewer-slots-ago-answers-once : OneAnswer 0 order-fewer-slots-ago-kinds.ps order-fewer-slots-ago-kinds.r order-fewer-slots-ago.Post
-fewer-slots-ago-answers-once κs a x y s t p q = p ∙ sym q
 
 pub valid-answers-once : OneAnswer 1 order-valid-kinds.ps order-valid-kinds.r order-valid.Post
 valid-answers-once κs a x y s t p q = p ∙ sym q
@@ -337,7 +332,7 @@ counting-answers-once κs a x y s t p q = p ∙ sym q
 pub take-answers-once : OneAnswer 0 pool-take-kinds.ps pool-take-kinds.r pool-take.Post
 take-answers-once κs a x y s t p q = p ∙ sym q
 
-pub drop-answers-once : OneAnswer 1 pool-drop-kinds.ps pool-drop-kinds.r pool-drop.Post
+pub drop-answers-once : OneAnswer 2 pool-drop-kinds.ps pool-drop-kinds.r pool-drop.Post
 drop-answers-once κs a x y s t p q = pooled-faithful x y (paired (p .0 ∙ sym (q .0)) (p .1 ∙ sym (q .1)))
 
 pub add-answers-once : OneAnswer 2 pool-add-kinds.ps pool-add-kinds.r pool-add.Post
@@ -431,7 +426,7 @@ ledger-adopt-answers-once κs a x y s t p q = p .0 ∙ sym (q .0)
 pub ledger-adopt-leaves-the-held-buffer-once : OneLater 4 ledger-adopt-kinds.ps ledger-adopt-kinds.r ledger-adopt.Post (λ κs s. now (s .1 .1 .0))
 ledger-adopt-leaves-the-held-buffer-once κs a x y s t p q = p .1 ∙ sym (q .1)
 
-pub ledger-drop-entries-answers-once : OneAnswer 1 ledger-drop-entries-kinds.ps ledger-drop-entries-kinds.r ledger-drop-entries.Post
+pub ledger-drop-entries-answers-once : OneAnswer 2 ledger-drop-entries-kinds.ps ledger-drop-entries-kinds.r ledger-drop-entries.Post
 ledger-drop-entries-answers-once κs a x y s t p q = p ∙ sym q
 
 pub ledger-add-order-answers-once : OneAnswer 2 ledger-add-order-kinds.ps ledger-add-order-kinds.r ledger-add-order.Post

@@ -59,13 +59,6 @@ pub fn more_slots_ago(slot: Slot, slots: u64, clock: Slot) -> bool
     slot.0 < clock.0 && slots < (clock.0 - slot.0) as u64
 }
 
-// Whether a slot lies fewer than so many slots before the clock's, or after it.
-pub fn fewer_slots_ago(slot: Slot, slots: u32, clock: Slot) -> bool
-    ensures { λ r. ⌜ r ≡ ltb (clock .0) (slot .0 + slots) ⌝ }
-{
-    (clock.0 as u64) < slot.0 as u64 + slots as u64
-}
-
 // A layout release, at most the largest number.
 pub type Release = Number;
 

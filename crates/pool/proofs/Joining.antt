@@ -1,22 +1,19 @@
 -- An order behind the entries that count: each way it may go.
 -- Assumes nothing.
-use Prim.Native.Nat.{ℕ, _+_, _<_, _≤_, zero-le}
+use Prim.Native.Nat.{ℕ, _+_, _<_, _≤_}
 use mathlib.Core.Path.{_≡_, refl, sym, ap}
 use mathlib.Core.Bool.{Bool, true, false}
 use mathlib.Core.List.{List, [], _∷_, _++_}
 use native.Mathlib.Omega.{arith}
 use lib.ListN.{length, set, length-append}
 use lib.Seq.{take-append-seam, length-take-le, take-all}
-use borrow.Author.Tests.{lt-ltb, le-ltb, le-leb}
+use borrow.Author.Tests.{lt-ltb, le-ltb}
 use Rattle.laws.specs.Told.{gives, refuses}
 use Rattle.laws.specs.Fold.{those}
 use Rattle.laws.proofs.Cases.{lt-cases}
 use Rattle.laws.proofs.Fold.{those-fewer, tailed-add}
 use Rattle.order.specs.Order.{orderInRange, valid}
 use Rattle.order.specs.declared.Order.{Order}
-use Rattle.chain.specs.Chain.{begun, heldChain}
-use Rattle.chain.specs.Answers.{summaryOr}
-use Rattle.laws.specs.Run.{run}
 use Rattle.chain.specs.declared.Opened.{Opened}
 use Rattle.chain.specs.declared.Summary.{Summary}
 use Rattle.pool.specs.Pool.{room, depots, depotRoom, noEntry, entriesIn, poolOf, counts, counting, ordersOf, shareOf, taking, offerFits, joined}
@@ -46,20 +43,6 @@ pub pool-add : (l : List Entry) (e : Entry) → length l < room
 pool-add l e less =
     let counts : length l + 1 ≡ length (l ++ (e ∷ [])) = sym (length-append l (e ∷ [])) in
     λ i. record { count = counts i; entries = tailed-add room noEntry l e less i }
-
--- no more count than there are
-pub counting-few : (o : Opened) (held : Summary) (p : Pool) → length (p .entries) ≡ room → length (counting o held p) ≤ room
-counting-few o held p long =
-    let some : length (entriesIn p) ≤ room =
-    lt-cases room (p .count)
-    (λ more. omega (arith, ap length (take-all (p .count) (p .entries) (omega arith))))
-    (λ few. omega (arith, length-take-le (p .count) (p .entries) (omega arith))) in
-    omega (arith, those-fewer (counts o held) (entriesIn p))
-
--- the chain of no blocks, as a call gives it
-pub no-blocks : (o : Opened) (buffer : List ℕ) → summaryOr o (heldChain o buffer 0) ≡ begun o
-unfolding heldChain run
-no-blocks o buffer = rw (le-leb 0 (length buffer) zero-le)
 
 module _ (o : Opened) (held : Summary) (counted l : List Entry) (order : Order) (depot : ℕ) where
   pub out-of-range : orderInRange order ≡ false → joined o held counted l order depot ≡ refuses 5 0

@@ -110,13 +110,13 @@ module _ (clock : ℕ) (p : Pool) (fits : presentFits clock p ≡ true) where
   present-shares = both-true (entriesFit clock p) (sharesFit (entriesIn p)) fits .1
 
 module _ (o : Opened) (held : Summary) (p : Pool) (fits : poolFits o held p ≡ true) where
-  pub counting-fit : Each (λ e. entryFits (o .clock .0) e ≡ true) (counting o held p)
+  pub counting-fit : Each (λ e. entryFits (o .clock .0) e ≡ true) (counting held p)
   counting-fit =
-      let (entries, _) = both-true (entriesFit (o .clock .0) p) (sharesFit (counting o held p)) fits in
-      each-those (λ e. entryFits (o .clock .0) e ≡ true) (counts o held) (entriesIn p) (entries-parts (o .clock .0) p entries .1)
+      let (entries, _) = both-true (entriesFit (o .clock .0) p) (sharesFit (counting held p)) fits in
+      each-those (λ e. entryFits (o .clock .0) e ≡ true) (counts held) (entriesIn p) (entries-parts (o .clock .0) p entries .1)
 
-  pub counting-in-range : Each (λ order. orderInRange order ≡ true) (ordersOf (counting o held p))
-  counting-in-range = each-orders (counting o held p) (each-weaker (λ e fine. entry-parts (o .clock .0) e fine .0) (counting o held p) counting-fit)
+  pub counting-in-range : Each (λ order. orderInRange order ≡ true) (ordersOf (counting held p))
+  counting-in-range = each-orders (counting held p) (each-weaker (λ e fine. entry-parts (o .clock .0) e fine .0) (counting held p) counting-fit)
 
-  pub counting-shares : sharesFit (counting o held p) ≡ true
-  counting-shares = both-true (entriesFit (o .clock .0) p) (sharesFit (counting o held p)) fits .1
+  pub counting-shares : sharesFit (counting held p) ≡ true
+  counting-shares = both-true (entriesFit (o .clock .0) p) (sharesFit (counting held p)) fits .1

@@ -1,6 +1,6 @@
 -- What a reader may take from this crate. 02, d: "past the earlier refusals, 20 depends only on how many of the asker's own entries count, and .. 13 can
 -- no longer occur", of the call that adds, which counts all entries present. 02, i: "the first and then the second answer as the old call did, wherever
--- that did not refuse".
+-- that did not refuse". 02, n: "a dropped entry could not have become valid later".
 -- Assumes nothing.
 use Prim.Native.Nat.{ℕ, _<_, _≤_}
 use mathlib.Core.Path.{_≡_, refl, ap, _∙_}
@@ -8,13 +8,13 @@ use mathlib.Core.Bool.{Bool, true, false}
 use mathlib.Core.List.{List, [], _∷_, _++_}
 use native.Mathlib.Omega.{arith}
 use lib.Dec.{ltb, leb}
-use lib.ListN.{length, take}
-use borrow.Author.Tests.{le-ltb, lt-ltb, ltb-true, le-leb}
+use lib.ListN.{length, take, getD}
+use borrow.Author.Tests.{le-ltb, lt-ltb, ltb-true, le-leb, leb-false}
 use Rattle.laws.specs.Told.{Told, gives, refuses, then, unless, numberOf}
 use Rattle.laws.specs.Every.{both}
 use Rattle.laws.specs.Repeated.{repeated}
 use Rattle.laws.specs.Fold.{those}
-use Rattle.laws.proofs.Told.{gives-same, then-gives, unless-gives}
+use Rattle.laws.proofs.Told.{then-gives, unless-gives}
 use Rattle.laws.proofs.Each.{each-every}
 use Rattle.laws.proofs.Fold.{those-fewer}
 use Rattle.laws.proofs.Every.{both-true}
@@ -24,6 +24,11 @@ use Rattle.order.specs.declared.Order.{Order}
 use Rattle.genesis.specs.Genesis.{headAt, tableAt, faulty, genesisOf, clockFits}
 use Rattle.chain.specs.Chain.{longest, linkOf, opened, held, begun, passed, bad, heldChain, with, holding}
 use Rattle.chain.specs.declared.Opened.{Opened}
+use Rattle.chain.specs.Blocks.{followed}
+use Rattle.chain.specs.declared.Standing.{Standing}
+use Rattle.chain.proofs.Theorems.{no-release-falls}
+use Rattle.block.specs.Block.{Parts}
+use Rattle.order.proofs.Validity.{valid-parts}
 use Rattle.chain.specs.declared.Summary.{Summary}
 use Rattle.pool.specs.Pool.{room, depots, depotRoom, poolOf, counting, ordersOf, shareOf, taking, entriesIn, entryFits, entriesFit, sharesFit, presentFits, poolFits, counts, offerFits, joined, added, dropped}
 use Rattle.pool.specs.Pooling.{offered}
@@ -38,7 +43,7 @@ pub record Past (genesis : List ℕ) (clock : ℕ) (buffer : List ℕ) (size : �
   pub holds : holding genesis clock buffer size ≡ gives h
   pub fits : presentFits (h .0 .clock .0) pool ≡ true
   pub offer : offerFits order depot ≡ true
-  pub good : valid (taking room (h .1 .whole .releases) (ordersOf (counting (h .0) (h .1) pool)) .releases) order ≡ true
+  pub good : valid (taking room (h .1 .whole .releases) (ordersOf (counting (h .1) pool)) .releases) order ≡ true
 
 module _ (genesis : List ℕ) (clock : ℕ) (buffer : List ℕ) (size : ℕ) (pool : Pool) (order : Order) (depot : ℕ) (h : Opened × Summary)
     (past : Past genesis clock buffer size pool order depot h) where
@@ -64,22 +69,16 @@ module _ (genesis : List ℕ) (clock : ℕ) (buffer : List ℕ) (size : ℕ) (po
 module _ (genesis : List ℕ) (clock : ℕ) (buffer : List ℕ) (size : ℕ) (pool : Pool) (order : Order) (depot : ℕ) (h : Opened × Summary)
     (holds : holding genesis clock buffer size ≡ gives h) (fits : poolFits (h .0) (h .1) pool ≡ true) where
   abbrev l : List Entry
-  l = counting (h .0) (h .1) pool
+  l = counting (h .1) pool
 
-  opens : opened genesis clock ≡ gives (h .0)
-  opens =
-      let (o, e, rest) = then-gives (opened genesis clock) _ h holds in
-      let (s, _, is) = then-gives (heldChain o buffer size) _ h rest in
-      e ∙ ap (λ (q : Opened × Summary). gives (q .0)) (gives-same is)
-
-  pub dropping-leaves-what-counts : dropped genesis clock pool ≡ gives (poolOf l)
-  dropping-leaves-what-counts = rw (opens, fits)
+  pub dropping-leaves-what-counts : dropped genesis clock buffer size pool ≡ gives (poolOf l)
+  dropping-leaves-what-counts = rw (holds, fits)
 
   few : length l ≤ room
   few =
       let (entries, _) = both-true (entriesFit (h .0 .clock .0) pool) (sharesFit l) fits in
       let some : length (entriesIn pool) ≤ room = omega (arith, taken-few (pool .count) (pool .entries), entries-parts (h .0 .clock .0) pool entries .0) in
-      omega (arith, those-fewer (counts (h .0) (h .1)) (entriesIn pool))
+      omega (arith, those-fewer (counts (h .1)) (entriesIn pool))
 
   present : presentFits (h .0 .clock .0) (poolOf l) ≡ true
   present =
@@ -90,8 +89,8 @@ module _ (genesis : List ℕ) (clock : ℕ) (buffer : List ℕ) (size : ℕ) (po
         counting-shares (h .0) (h .1) pool fits,
       )
 
-  counted : counting (h .0) (h .1) (poolOf l) ≡ l
-  counted = ap (those (counts (h .0) (h .1))) (entries-of l) ∙ those-twice (counts (h .0) (h .1)) (entriesIn pool)
+  counted : counting (h .1) (poolOf l) ≡ l
+  counted = ap (those (counts (h .1))) (entries-of l) ∙ those-twice (counts (h .1)) (entriesIn pool)
 
   -- refusals past 18 too
   pub and-then-adding-answers-as-pooling-did : added genesis clock buffer size (poolOf l) order depot ≡ offered genesis clock buffer size pool order depot
@@ -99,14 +98,27 @@ module _ (genesis : List ℕ) (clock : ℕ) (buffer : List ℕ) (size : ℕ) (po
 
 pub drop-and-then-add-answer-as-pooling-did : (genesis : List ℕ) (clock : ℕ) (buffer : List ℕ) (size : ℕ) (pool : Pool) (order : Order) (depot : ℕ) (after : Pool)
     → offered genesis clock buffer size pool order depot ≡ gives after
-    → (cleared-pool : Pool) × (dropped genesis clock pool ≡ gives cleared-pool) × (added genesis clock buffer size cleared-pool order depot ≡ gives after)
+    → (cleared-pool : Pool) × (dropped genesis clock buffer size pool ≡ gives cleared-pool) × (added genesis clock buffer size cleared-pool order depot ≡ gives after)
 drop-and-then-add-answer-as-pooling-did genesis clock buffer size pool order depot after e =
     let (h, holds, rest) = then-gives (holding genesis clock buffer size) _ after e in
     let (fits, _) = unless-gives (poolFits (h .0) (h .1) pool) 18 0 _ after rest in (
-      poolOf (counting (h .0) (h .1) pool),
+      poolOf (counting (h .1) pool),
       dropping-leaves-what-counts genesis clock buffer size pool order depot h holds fits,
       and-then-adding-answers-as-pooling-did genesis clock buffer size pool order depot h holds fits ∙ e,
     )
+
+-- ---- 02, n: "a dropped entry could not have become valid later in any chain that extends the settled blocks". It was dropped since it no longer counts
+pub a-dropped-entry-is-never-valid-again : (s : Summary) (e : Entry) → counts s e ≡ false → (blocks : List Parts) (after : Standing)
+    → followed (s .settled) blocks ≡ gives after → valid (after .releases) (e .order) ≡ false
+a-dropped-entry-is-never-valid-again s e stopped blocks after extends =
+    by-test (valid (after .releases) (e .order)) refl
+  where
+    by-test : (β : Bool) → valid (after .releases) (e .order) ≡ β → β ≡ false
+    by-test false is = refl
+    by-test true is =
+        let (_, there, _) = valid-parts (after .releases) (e .order) is in
+        let above = leb-false (getD (s .settled .releases) (e .order .display) 0) (e .order .expected) stopped in
+        absurd (omega (arith, there, above, no-release-falls (s .settled) blocks after extends (e .order .display)))
 
 -- ---- 13 can no longer occur
 abbrev Never : {A : Type 0} → Told A → Type 0
@@ -156,13 +168,13 @@ never-holding genesis clock buffer size =
 
 module _ (genesis : List ℕ) (clock : ℕ) (buffer : List ℕ) (size : ℕ) (pool : Pool) (order : Order) (depot : ℕ) where
   never-joined : (h : Opened × Summary) → holding genesis clock buffer size ≡ gives h → presentFits (h .0 .clock .0) pool ≡ true
-      → Never (joined (h .0) (h .1) (counting (h .0) (h .1) pool) (entriesIn pool) order depot)
+      → Never (joined (h .0) (h .1) (counting (h .1) pool) (entriesIn pool) order depot)
   never-joined h holds fits =
       let l = entriesIn pool in
       let last : Told Pool = gives (poolOf (l ++ (record { order = order; slot = h .0 .clock; depot = depot } ∷ []))) in
       let room-test : Told Pool = unless (ltb (length l) room) 13 0 last in
       let share-test : Told Pool = unless (ltb (shareOf depot l) depotRoom) 20 0 room-test in
-      let good-test : Bool = valid (taking room (h .1 .whole .releases) (ordersOf (counting (h .0) (h .1) pool)) .releases) order in
+      let good-test : Bool = valid (taking room (h .1 .whole .releases) (ordersOf (counting (h .1) pool)) .releases) order in
       never-unless (offerFits order depot) 5 (unless good-test 14 0 share-test) (λ e. absurd (omega arith))
       (λ offer.
       never-unless good-test 14 share-test (λ e. absurd (omega arith))
@@ -176,8 +188,8 @@ module _ (genesis : List ℕ) (clock : ℕ) (buffer : List ℕ) (size : ℕ) (po
   pub thirteen-never-occurs : numberOf (added genesis clock buffer size pool order depot) ≡ 13 → ⊥
   thirteen-never-occurs =
       never-then (holding genesis clock buffer size)
-      (λ h. unless (presentFits (h .0 .clock .0) pool) 18 0 (joined (h .0) (h .1) (counting (h .0) (h .1) pool) (entriesIn pool) order depot))
+      (λ h. unless (presentFits (h .0 .clock .0) pool) 18 0 (joined (h .0) (h .1) (counting (h .1) pool) (entriesIn pool) order depot))
       (never-holding genesis clock buffer size)
       (λ h holds.
-      never-unless (presentFits (h .0 .clock .0) pool) 18 (joined (h .0) (h .1) (counting (h .0) (h .1) pool) (entriesIn pool) order depot)
+      never-unless (presentFits (h .0 .clock .0) pool) 18 (joined (h .0) (h .1) (counting (h .1) pool) (entriesIn pool) order depot)
       (λ e. absurd (omega arith)) (λ fits. never-joined h holds fits))

@@ -4,7 +4,7 @@ use Prim.Native.Nat.{ℕ, zero, suc, _+_}
 use mathlib.Core.Bool.{Bool, true}
 use mathlib.Core.List.{List, [], _∷_, _++_, map}
 use lib.Dec.{ltb, leb, eqb}
-use lib.ListN.{length, take}
+use lib.ListN.{length, take, getD}
 use Rattle.laws.specs.Pick.{pick}
 use Rattle.laws.specs.Told.{Told, gives, then, unless}
 use Rattle.laws.specs.Every.{both, within, every}
@@ -12,7 +12,7 @@ use Rattle.laws.specs.Fold.{folded, those}
 use Rattle.laws.specs.Tabulate.{tailed}
 use Rattle.order.specs.Order.{orderInRange, valid, applied}
 use Rattle.order.specs.declared.Order.{Order}
-use Rattle.chain.specs.Chain.{opened, begun, holding}
+use Rattle.chain.specs.Chain.{holding}
 use Rattle.chain.specs.declared.Opened.{Opened}
 use Rattle.chain.specs.declared.Summary.{Summary}
 use Rattle.pool.specs.declared.Entry.{Entry}
@@ -61,16 +61,16 @@ sharesBelow (suc depot) entries = both (sharesBelow depot entries) (leb (shareOf
 abbrev pub sharesFit : List Entry → Bool
 sharesFit entries = sharesBelow depots entries
 
--- "An entry counts while now minus its slot is less than u": now is less than its slot and u together
-abbrev pub counts : Opened → Summary → Entry → Bool
-counts o held e = ltb (o .clock .0) (e .slot .0 + o .table .u)
+-- 02, n: "An entry now stops counting when its display's settled release is above the release that it expects, and not before"
+abbrev pub counts : Summary → Entry → Bool
+counts held e = leb (getD (held .settled .releases) (e .order .display) 0) (e .order .expected)
 
-abbrev pub counting : Opened → Summary → Pool → List Entry
-counting o held p = those (counts o held) (entriesIn p)
+abbrev pub counting : Summary → Pool → List Entry
+counting held p = those (counts held) (entriesIn p)
 
 -- 18, as a whole; 02, d: or "more than 16 counting entries of one depot"
 abbrev pub poolFits : Opened → Summary → Pool → Bool
-poolFits o held p = both (entriesFit (o .clock .0) p) (sharesFit (counting o held p))
+poolFits o held p = both (entriesFit (o .clock .0) p) (sharesFit (counting held p))
 
 abbrev pub ordersOf : List Entry → List Order
 ordersOf entries = map (λ e. e .order) entries
@@ -110,12 +110,12 @@ presentFits clock p = both (entriesFit clock p) (sharesFit (entriesIn p))
 abbrev pub added : (genesis : List ℕ) (clock : ℕ) (held : List ℕ) (size : ℕ) → Pool → Order → (depot : ℕ) → Told Pool
 added genesis clock held size pool order depot =
     then (holding genesis clock held size) λ h.
-    unless (presentFits (h .0 .clock .0) pool) 18 0 (joined (h .0) (h .1) (counting (h .0) (h .1) pool) (entriesIn pool) order depot)
+    unless (presentFits (h .0 .clock .0) pool) 18 0 (joined (h .0) (h .1) (counting (h .1) pool) (entriesIn pool) order depot)
 
 -- "one call drops the entries that no longer count": 18
 abbrev pub cleared : Opened → Summary → Pool → Told Pool
-cleared o held p = unless (poolFits o held p) 18 0 (gives (poolOf (counting o held p)))
+cleared o held p = unless (poolFits o held p) 18 0 (gives (poolOf (counting held p)))
 
--- 1, 2, 18
-abbrev pub dropped : (genesis : List ℕ) (clock : ℕ) → Pool → Told Pool
-dropped genesis clock pool = then (opened genesis clock) λ o. cleared o (begun o) pool
+-- 1, 2, 17, 18
+abbrev pub dropped : (genesis : List ℕ) (clock : ℕ) (held : List ℕ) (size : ℕ) → Pool → Told Pool
+dropped genesis clock held size pool = then (holding genesis clock held size) λ h. cleared (h .0) (h .1) pool

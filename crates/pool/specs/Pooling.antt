@@ -14,4 +14,4 @@ abbrev pub offered : (genesis : List ℕ) (clock : ℕ) (held : List ℕ) (size 
 offered genesis clock held size pool order depot =
     then (holding genesis clock held size) λ h.
     unless (poolFits (h .0) (h .1) pool) 18 0
-    (joined (h .0) (h .1) (counting (h .0) (h .1) pool) (counting (h .0) (h .1) pool) order depot)
+    (joined (h .0) (h .1) (counting (h .1) pool) (counting (h .1) pool) order depot)

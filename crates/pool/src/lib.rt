@@ -3,11 +3,11 @@
 use chain::Opened;
 use chain::Summary;
 use order::BlockCount;
+use order::DISPLAYS;
 use order::Order;
 use order::Release;
 use order::Slot;
 use order::earlier;
-use order::fewer_slots_ago;
 use refusal::Answer;
 use refusal::BAD_OFFER;
 use refusal::BAD_POOL;
@@ -17,7 +17,7 @@ ghost use mathlib.Core.Path.{_≡_};
 ghost use mathlib.Core.Bool.{true};
 ghost use Prim.Native.Nat.{_+_, _<_};
 ghost use lib.Dec.{leb};
-ghost use lib.ListN.{set};
+ghost use lib.ListN.{getD, set};
 ghost use Rattle.laws.specs.Pick.{pick};
 ghost use Rattle.laws.specs.Told.{refuses};
 ghost use Rattle.pool.specs.Pool as spec;
@@ -68,7 +68,7 @@ pub fn fits(opened: Opened, held: Summary, pool: Pool) -> bool
     if !entries_fit(opened.clock, pool) {
         return false;
     }
-    shares_fit(counting(opened, held, pool))
+    shares_fit(counting(held, pool))
 }
 
 // Whether an order may be added to a pool: as before, but every entry that is present takes room.
@@ -144,17 +144,23 @@ fn of_depot(pool: Pool, depot: u32) -> u32
     count
 }
 
-// Whether an entry still counts.
-fn counts(opened: Opened, held: Summary, entry: Entry) -> bool
-    ensures { λ r. ⌜ r ≡ spec.counts opened held entry ⌝ }
+// Whether an entry still counts: nothing newer than it expects is settled for its display. One of no display counts, since there nothing is settled.
+fn counts(releases: [Release; 64], entry: Entry) -> bool
+    ensures { λ r. ⌜ r ≡ leb (getD releases (entry .order .display) 0) (entry .order .expected) ⌝ }
 {
-    fewer_slots_ago(entry.slot, opened.table.u, opened.clock)
+    let display = entry.order.display as usize;
+    if DISPLAYS <= display {
+        return true;
+    }
+    releases[display] <= entry.order.expected
 }
 
 // The entries that count, in their order.
-pub fn counting(opened: Opened, held: Summary, pool: Pool) -> Pool
-    ensures { λ r. ⌜ r ≡ spec.poolOf (spec.counting opened held pool) ⌝ }
+pub fn counting(held: Summary, pool: Pool) -> Pool
+    ensures { λ r. ⌜ r ≡ spec.poolOf (spec.counting held pool) ⌝ }
 {
+    let settled = held.settled;
+    let releases = settled.releases;
     let most = least(pool.count);
     let all = pool.entries;
     let none = none();
@@ -164,7 +170,7 @@ pub fn counting(opened: Opened, held: Summary, pool: Pool) -> Pool
     while i < most {
         let entry = all[i];
         i += 1;
-        if counts(opened, held, entry) {
+        if counts(releases, entry) {
             entries[count] = entry;
             count += 1;
         }
@@ -229,21 +235,17 @@ pub fn take(pool: Pool, releases: [Release; 64], limit: u32) -> Taken
 }
 
 // Drops the entries that no longer count.
-pub fn drop(genesis: &[u8], clock: Slot, pool: Pool) -> Pooled
-    ensures answer { λ r. ⌜ toldPooled r ≡ spec.dropped (now (genesis .entry)) (clock .0) pool ⌝ }
-    ensures pool { λ r. ⌜ r .pool ≡ poolOr pool (spec.dropped (now (genesis .entry)) (clock .0) pool) ⌝ }
+pub fn drop(genesis: &[u8], clock: Slot, held: &[u8], length: usize, pool: Pool) -> Pooled
+    ensures answer { λ r. ⌜ toldPooled r ≡ spec.dropped (now (genesis .entry)) (clock .0) (now (held .entry)) length pool ⌝ }
+    ensures pool { λ r. ⌜ r .pool ≡ poolOr pool (spec.dropped (now (genesis .entry)) (clock .0) (now (held .entry)) length pool) ⌝ }
 {
-    let opening = chain::open(genesis, clock);
-    let answer = opening.answer;
-    let opened = opening.opened;
+    let holding = chain::hold(genesis, clock, held, length);
+    let answer = holding.answer;
+    let opened = holding.opened;
+    let summary = holding.summary;
     match answer {
         Answer::Refused(number, place) => refused(number, place, pool),
-        Answer::Good => {
-            // what counts does not hang on the held chain: the one of no blocks will do
-            let none = chain::held(opened, genesis, 0);
-            let summary = none.summary;
-            clear(opened, summary, pool)
-        }
+        Answer::Good => clear(opened, summary, pool),
     }
 }
 
@@ -255,7 +257,7 @@ fn clear(opened: Opened, held: Summary, pool: Pool) -> Pooled
     if !fits(opened, held, pool) {
         return refused(BAD_POOL, BlockCount(0), pool);
     }
-    let kept = counting(opened, held, pool);
+    let kept = counting(held, pool);
     Pooled {
         answer: Answer::Good,
         pool: kept,
@@ -302,7 +304,7 @@ fn refused(number: u32, place: BlockCount, pool: Pool) -> Pooled
 // An order behind the entries that are present: 5, 14, 20. A depot with room in its share has room in the pool: 13 can't occur.
 fn join(opened: Opened, held: Summary, pool: Pool, order: Order, depot: u32) -> Pooled
     requires { ⌜ spec.presentFits (opened .clock .0) pool ≡ true ⌝ }
-    ensures { λ r. ⌜ toldPooled r ≡ spec.joined opened held (spec.counting opened held pool) (spec.entriesIn pool) order depot ⌝ }
+    ensures { λ r. ⌜ toldPooled r ≡ spec.joined opened held (spec.counting held pool) (spec.entriesIn pool) order depot ⌝ }
     ensures { λ r. ⌜ r .pool ≡ poolOr pool (toldPooled r) ⌝ }
 {
     if !order::in_range(order) {
@@ -313,7 +315,7 @@ fn join(opened: Opened, held: Summary, pool: Pool, order: Order, depot: u32) -> 
     }
     let whole = held.whole;
     let before = whole.releases;
-    let kept = counting(opened, held, pool);
+    let kept = counting(held, pool);
     let taken = take(kept, before, ROOM);
     let releases = taken.releases;
     if !order::valid(&releases, order) {

@@ -71,7 +71,7 @@ module _ (genesis : List ℕ) (table : Genesis) (clock : ℕ) (s : Node) (blocks
     length = held-now .summary .whole .length + length (blockBytes block);
     stamp = record { 0 = clock };
     link = linkOf (blockBytes block);
-    releases = taking 8 (held-now .summary .whole .releases) (ordersOf (counting o (held-now .summary) (s .pool))) .releases;
+    releases = taking 8 (held-now .summary .whole .releases) (ordersOf (counting (held-now .summary) (s .pool))) .releases;
   }
 
   abbrev pub then-held : Summary

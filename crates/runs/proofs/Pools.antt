@@ -17,7 +17,7 @@ use Rattle.laws.proofs.Fold.{those-fewer}
 use Rattle.laws.proofs.Each.{every-each, each-every, each-weaker, each-append, each-those}
 use Rattle.order.specs.Order.{orderInRange, valid}
 use Rattle.order.specs.declared.Order.{Order}
-use Rattle.chain.specs.Chain.{opened, begun, heldChain, holding}
+use Rattle.chain.specs.Chain.{opened, heldChain, holding}
 use Rattle.chain.specs.declared.Opened.{Opened}
 use Rattle.chain.specs.declared.Summary.{Summary}
 use Rattle.pool.specs.Pool.{room, depots, depotRoom, entriesIn, poolOf, entryFits, entriesFit, shareOf, sharesFit, poolFits, offerFits, counts, counting, ordersOf, taking, joined, cleared, presentFits}
@@ -36,7 +36,7 @@ pub record Pooled (clock : ℕ) (pool : Pool) : Type 0 where
   pub shares : sharesFit (entriesIn pool) ≡ true
 
 pub pooled-fits : (o : Opened) (h : Summary) (pool : Pool) → Pooled (o .clock .0) pool → poolFits o h pool ≡ true
-pooled-fits o h pool pooled = rw (pooled .entries) (fewer-fit (counts o h) (entriesIn pool) (pooled .shares))
+pooled-fits o h pool pooled = rw (pooled .entries) (fewer-fit (counts h) (entriesIn pool) (pooled .shares))
 
 pub pooled-none : (clock : ℕ) (pool : Pool) → pool .count ≡ 0 → Pooled clock pool
 pooled-none clock pool none = record { entries = rw none; shares = rw none }
@@ -82,38 +82,36 @@ joined-pooled o h counted l order depot pool low fit shares e =
 -- or some fewer
 cleared-pooled : (o : Opened) (h : Summary) (pool after : Pool) → Pooled (o .clock .0) pool → cleared o h pool ≡ gives after → Pooled (o .clock .0) after
 cleared-pooled o h pool after pooled e =
-    let l = counting o h pool in
+    let l = counting h pool in
     let (few, fit) = entries-parts (o .clock .0) pool (pooled .entries) in
     let (_, is) = unless-gives (poolFits o h pool) 18 0 (gives (poolOf l)) after e in
     subst (Pooled (o .clock .0)) (gives-same is)
-    (of-entries (o .clock .0) l (omega (arith, those-fewer (counts o h) (entriesIn pool), taken-few (pool .count) (pool .entries), few))
-    (each-those (λ e. entryFits (o .clock .0) e ≡ true) (counts o h) (entriesIn pool) fit) (fewer-fit (counts o h) (entriesIn pool) (pooled .shares)))
+    (of-entries (o .clock .0) l (omega (arith, those-fewer (counts h) (entriesIn pool), taken-few (pool .count) (pool .entries), few))
+    (each-those (λ e. entryFits (o .clock .0) e ≡ true) (counts h) (entriesIn pool) fit) (fewer-fit (counts h) (entriesIn pool) (pooled .shares)))
 
 module _ (genesis : List ℕ) (clock : ℕ) (s : Node) (pooled : Pooled clock (s .pool)) where
-  -- the slot that a call is opened at
-  shown : (o : Opened) → opened genesis clock ≡ gives o → (1 ≤ o .clock .0) × (o .clock .0 ≡ clock)
-  shown o opens =
+  -- what a call holds is opened at the slot
+  shown : (h : Opened × Summary) → holding genesis clock (s .buffer) (s .size) ≡ gives h → (1 ≤ h .0 .clock .0) × (h .0 .clock .0 ≡ clock)
+  shown h holds =
+      let (o, opens, rest) = then-gives (opened genesis clock) _ h holds in
+      let (_, _, is) = then-gives (heldChain o (s .buffer) (s .size)) _ h rest in
       let (_, fits, same) = opened-link genesis clock o opens in
       let (low, _) = within-true 1 256 (o .clock .0) fits in
-      (low, same)
+      subst (λ (q : Opened). (1 ≤ q .clock .0) × (q .clock .0 ≡ clock)) (ap (λ (q : Opened × Summary). q .0) (gives-same is)) (low, same)
+
+  there : (h : Opened × Summary) → holding genesis clock (s .buffer) (s .size) ≡ gives h → Pooled (h .0 .clock .0) (s .pool)
+  there h holds = subst (λ (n : ℕ). Pooled n (s .pool)) (sym (shown h holds .1)) pooled
 
   given-pooled : (p : Pooling) (after : Pool) → pools genesis clock s p ≡ gives after → Pooled clock after
   given-pooled drop after e =
-      let (o, opens, rest) = then-gives (opened genesis clock) _ after e in
-      let (_, same) = shown o opens in
-      subst (λ (n : ℕ). Pooled n after) same
-      (cleared-pooled o (begun o) (s .pool) after (subst (λ (n : ℕ). Pooled n (s .pool)) (sym same) pooled) rest)
+      let (h, holds, rest) = then-gives (holding genesis clock (s .buffer) (s .size)) _ after e in
+      subst (λ (n : ℕ). Pooled n after) (shown h holds .1) (cleared-pooled (h .0) (h .1) (s .pool) after (there h holds) rest)
   given-pooled (add order depot) after e =
       let (h, holds, rest) = then-gives (holding genesis clock (s .buffer) (s .size)) _ after e in
-      let (o, opens, rest′) = then-gives (opened genesis clock) _ h holds in
-      let (_, _, is) = then-gives (heldChain o (s .buffer) (s .size)) _ h rest′ in
-      let (low, same) = shown o opens in
-      let at : o .clock .0 ≡ h .0 .clock .0 = ap (λ q. q .0 .clock .0) (gives-same is) in
-      let there = subst (λ (n : ℕ). Pooled n (s .pool)) (sym same ∙ at) pooled in
       let (_, join) = unless-gives (presentFits (h .0 .clock .0) (s .pool)) 18 0 _ after rest in
-      subst (λ (n : ℕ). Pooled n after) (sym at ∙ same)
-      (joined-pooled (h .0) (h .1) (counting (h .0) (h .1) (s .pool)) (entriesIn (s .pool)) order depot after (omega (arith, low, at))
-      (entries-parts (h .0 .clock .0) (s .pool) (there .entries) .1) (there .shares) join)
+      subst (λ (n : ℕ). Pooled n after) (shown h holds .1)
+      (joined-pooled (h .0) (h .1) (counting (h .1) (s .pool)) (entriesIn (s .pool)) order depot after (shown h holds .0)
+      (entries-parts (h .0 .clock .0) (s .pool) (there h holds .entries) .1) (there h holds .shares) join)
 
   pub pooled-then : (p : Pooling) → Pooled clock (poolOr (s .pool) (pools genesis clock s p))
   pooled-then p = by-answer (pools genesis clock s p) refl

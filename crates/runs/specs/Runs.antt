@@ -51,7 +51,7 @@ abbrev pub adopts : (genesis : List ℕ) (clock : ℕ) → Node → (bytes verdi
 adopts genesis clock s bytes verdicts = adopted (accepted genesis clock (s .buffer) (s .size) bytes verdicts) (s .buffer) bytes
 
 abbrev pub pools : (genesis : List ℕ) (clock : ℕ) → Node → Pooling → Told Pool
-pools genesis clock s drop = dropped genesis clock (s .pool)
+pools genesis clock s drop = dropped genesis clock (s .buffer) (s .size) (s .pool)
 pools genesis clock s (add order depot) = added genesis clock (s .buffer) (s .size) (s .pool) order depot
 
 abbrev pub afterEvent : (genesis : List ℕ) (clock : ℕ) → Node → Event → Node

@@ -102,7 +102,7 @@ fn answered(line: &[u8]) {
 fn answer(line: &[u8]) {
     let op = op_of(
         line,
-        b"valid 4 take 4 genesis 1 turn 2 depth 1 key 2 block 2 body 2 write 7 front 6 length 2 slot-text 2 walk 2 check 4 held 4 choose 5 adopt 6 drop 3 add 9 draft 8 text 8 append 8",
+        b"valid 4 take 4 genesis 1 turn 2 depth 1 key 2 block 2 body 2 write 7 front 6 length 2 slot-text 2 walk 2 check 4 held 4 choose 5 adopt 6 drop 5 add 9 draft 8 text 8 append 8",
     );
     let mut bytes = [0u8; STRINGS];
     let ends = fields::strings(line, &mut bytes);

@@ -10,12 +10,14 @@ use pool::Entry;
 use pool::Pool;
 use pool::Pooled;
 
-// drop GENESIS NOW COUNT DISPLAY EXPECTED NEW SLOT DEPOT ..
+// drop GENESIS NOW HELD LENGTH COUNT DISPLAY EXPECTED NEW SLOT DEPOT ..
 pub fn drop(line: &[u8], bytes: &[u8], ends: &[usize; 8]) {
     print_pooled(pool::drop(
         string(bytes, ends, 1),
         fields::slot(line, 2),
-        pool_of(fields::tail(line, 3)),
+        string(bytes, ends, 3),
+        fields::place(line, 4),
+        pool_of(fields::tail(line, 5)),
     ));
 }
 

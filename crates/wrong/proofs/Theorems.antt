@@ -89,8 +89,8 @@ adopt =
     (ap (λ t. given (adopted (accepted-from (zeros 162) 0 first verdicts t) (zeros 162) first)) (opens 4 refl))
     (ap (λ t. given (adopted (accepted-from (zeros 162) 0 [] verdicts t) (zeros 162) [])) (opens 4 refl))
 
-pub drop : Rejected λ pool. dropped genesis 1 pool
-unfolding genesisOf numberAt readGroups
+pub drop : Rejected λ pool. dropped genesis 1 ([]) 0 pool
+unfolding genesisOf numberAt readGroups heldChain run
 drop = rejected _ noPool (record { count = 65; entries = noPool .entries }) refl refl
 
 pub add : Rejected λ order. added genesis 1 ([]) 0 noPool order 0
@@ -141,9 +141,9 @@ adopting-touches =
     touched _ (λ b. getD b 33 0) (zeros 162) 0 1 refl
     (ap (λ t. getD (adopting (accepted-from (zeros 162) 0 first verdicts t) (zeros 162) first) 33 0) (opens 4 refl)) refl
 
-pub dropping-touches : TouchesNothing (λ pool. poolOr pool (dropped genesis 200 pool)) → ⊥
-unfolding genesisOf numberAt readGroups
-dropping-touches = touched _ (λ p. p .count) (poolOf (record { order = upgrade 7 8; slot = record { 0 = 1 }; depot = 0 } ∷ [])) 1 0 refl refl refl
+pub dropping-touches : TouchesNothing (λ pool. poolOr pool (dropped genesis 1 ([]) 0 pool)) → ⊥
+unfolding genesisOf numberAt readGroups heldChain run
+dropping-touches = touched _ (λ p. p .count) (poolOf (record { order = upgrade 6 8; slot = record { 0 = 1 }; depot = 0 } ∷ [])) 1 0 refl refl refl
 
 pub adding-touches : TouchesNothing (λ pool. poolOr pool (added genesis 1 ([]) 0 pool (upgrade 7 8) 0)) → ⊥
 unfolding genesisOf numberAt readGroups heldChain run taking

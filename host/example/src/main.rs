@@ -66,7 +66,7 @@ impl Controller {
             expected: from,
             new: to,
         };
-        ledger::drop_entries(genesis, now, &mut self.pool)?;
+        self.held.drop_entries(genesis, now, &mut self.pool)?;
         self.held.add_order(genesis, now, &mut self.pool, order, 0)
     }
 
@@ -89,11 +89,11 @@ fn main() -> Result<(), Box<dyn Error>> {
         held: Held::new([0; CHAIN_BYTES]),
         pool: Pool::EMPTY,
     });
-    // t = 0, orders stay pooled for u = 3 slots, and the display starts at release 7
+    // t = 0, and the display starts at release 7
     let mut releases = [0; DISPLAYS];
     releases[DISPLAY] = 7;
     let mut buffer = [0; GENESIS_BYTES];
-    let genesis = ledger::write_genesis(0, 3, &releases, &keys, &mut buffer)?;
+    let genesis = ledger::write_genesis(0, &releases, &keys, &mut buffer)?;
 
     one.offer(genesis, Slot(1), 7, 8)?;
     let sent = one.issue(genesis, Slot(1))?;

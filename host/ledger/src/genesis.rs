@@ -38,16 +38,15 @@ pub fn key(genesis: &[u8], controller: u32) -> Result<&[u8; KEY_BYTES], Refusal>
     })
 }
 
-/// Writes the genesis of a station with these keys, as many as there are controllers, of whom t may be faulty, and gives it. Its orders stay
-/// pooled for u slots. [`GENESIS_BYTES`] never are too few; a fault leaves the buffer as it came.
+/// Writes the genesis of a station with these keys, as many as there are controllers, of whom t may be faulty, and gives it. Its u, which has no
+/// effect, is [`POOL_SLOTS`]. [`GENESIS_BYTES`] never are too few; a fault leaves the buffer as it came.
 pub fn write_genesis<'o>(
     t: u32,
-    u: u32,
     releases: &Releases,
     keys: &[[u8; KEY_BYTES]],
     out: &'o mut [u8],
 ) -> Result<&'o [u8], GenesisFault> {
-    let head = [keys.len() as u64, t.into(), u.into()];
+    let head = [keys.len() as u64, t.into(), POOL_SLOTS as u64];
     head_fault(head)?;
     release_fault(releases)?;
     let mut bytes = [0; GENESIS_BYTES];
@@ -147,7 +146,10 @@ impl Display for GenesisFault {
                 write!(f, "t = {t}: of {n} controllers at most {most} may be faulty, since n is at least 3t + 1")
             }
             GenesisFault::Pooled { u } => {
-                write!(f, "u = {u}: an order stays pooled for 1 to 64 slots")
+                write!(
+                    f,
+                    "u = {u}: it has no effect, and must be 1 to {POOL_SLOTS}"
+                )
             }
             GenesisFault::Release { display, release } => {
                 write!(
@@ -208,7 +210,7 @@ mod tests {
         for n in 1..=31 {
             for t in 0..=u32::from(n - 1) / 3 {
                 let mut out = [0xEE; GENESIS_BYTES];
-                let bytes = write_genesis(t, 64, &releases(), &keys(n), &mut out).unwrap();
+                let bytes = write_genesis(t, &releases(), &keys(n), &mut out).unwrap();
                 let table = Genesis::read(bytes).unwrap();
                 assert_eq!((table.n, table.t, table.u), (n.into(), t, 64));
                 assert_eq!(table.releases, releases());
@@ -224,10 +226,10 @@ mod tests {
     fn the_longest_and_a_byte_less_room() {
         let mut out = [0xEE; GENESIS_BYTES];
         let (most, keys) = ([LARGEST; DISPLAYS], keys(31));
-        let short = write_genesis(10, 64, &most, &keys, &mut out[1..]);
+        let short = write_genesis(10, &most, &keys, &mut out[1..]);
         assert_eq!(short, Err(GenesisFault::ShortBuffer));
         assert_eq!(out, [0xEE; GENESIS_BYTES]);
-        let bytes = write_genesis(10, 64, &most, &keys, &mut out).unwrap();
+        let bytes = write_genesis(10, &most, &keys, &mut out).unwrap();
         assert_eq!(bytes.len(), GENESIS_BYTES);
         let table = Genesis::read(bytes).unwrap();
         assert_eq!((table.keys_at, table.releases), (323, most));
@@ -249,7 +251,7 @@ mod tests {
         ] {
             let (mut releases, mut out) = (releases(), [0xEE; GENESIS_BYTES]);
             releases[display] = release;
-            let fault = write_genesis(0, 1, &releases, &keys(1), &mut out).unwrap_err();
+            let fault = write_genesis(0, &releases, &keys(1), &mut out).unwrap_err();
             assert_eq!(fault, GenesisFault::Release { display, release });
             assert_eq!(fault.to_string(), words);
             assert_eq!(out, [0xEE; GENESIS_BYTES]);
@@ -258,19 +260,17 @@ mod tests {
 
     #[test]
     fn not_written() {
-        for (t, u, n, words) in [
-            (0, 1, 0, "n = 0: a station has 1 to 31 controllers"),
-            (0, 1, 32, "n = 32: a station has 1 to 31 controllers"),
+        for (t, n, words) in [
+            (0, 0, "n = 0: a station has 1 to 31 controllers"),
+            (0, 32, "n = 32: a station has 1 to 31 controllers"),
             (
                 4,
-                1,
                 12,
                 "t = 4: of 12 controllers at most 3 may be faulty, since n is at least 3t + 1",
             ),
-            (0, 65, 1, "u = 65: an order stays pooled for 1 to 64 slots"),
         ] {
             let mut out = [0xEE; GENESIS_BYTES];
-            let fault = write_genesis(t, u, &releases(), &keys(n), &mut out).unwrap_err();
+            let fault = write_genesis(t, &releases(), &keys(n), &mut out).unwrap_err();
             assert_eq!(fault.to_string(), words);
             assert_eq!(out, [0xEE; GENESIS_BYTES]);
         }
@@ -279,7 +279,7 @@ mod tests {
     #[test]
     fn not_read() {
         let mut out = [0; GENESIS_BYTES];
-        let good = write_genesis(0, 1, &releases(), &keys(2), &mut out).unwrap();
+        let good = write_genesis(0, &releases(), &keys(2), &mut out).unwrap();
         let words = |bytes: &[u8]| genesis_fault(bytes).unwrap_err().to_string();
         assert_eq!(words(&[]), "n is cut");
         assert_eq!(words(&[1, 0x80, 0]), "t is badly written");
@@ -293,6 +293,12 @@ mod tests {
             words(&[1, 1, 1]),
             "t = 1: of 1 controllers at most 0 may be faulty, since n is at least 3t + 1"
         );
+        for (u, wrong) in [
+            (0, "u = 0: it has no effect, and must be 1 to 64"),
+            (65, "u = 65: it has no effect, and must be 1 to 64"),
+        ] {
+            assert_eq!(words(&[1, 0, u]), wrong);
+        }
         // n = 2^32 + 1
         assert_eq!(
             words(&[0x81, 0x80, 0x80, 0x80, 0x10, 0, 1]),

@@ -1,4 +1,4 @@
-//! The held chain, the pool, and the calls on them.
+//! The held chain, and the calls on it.
 use crate::{raw, told, written};
 use crate::{BlockCount, Order, Pool, Refusal, Releases, Signature, Slot};
 
@@ -73,8 +73,17 @@ impl<B: AsRef<[u8]>> Held<B> {
         told(answer.refusal, answer.place, report)
     }
 
+    /// Drops the entries of a pool that no longer count, since a release above the one that they expect is settled: 1, 2, 17, 18. What it has dropped
+    /// stays dropped, also where an order that is added then is refused.
+    pub fn drop_entries(&self, genesis: &[u8], now: Slot, pool: &mut Pool) -> Result<(), Refusal> {
+        let held = self.buffer.as_ref();
+        let answer = raw::ledger_drop_entries(genesis, now, held, self.length, *pool);
+        *pool = answer.pool;
+        told(answer.refusal, answer.place, ())
+    }
+
     /// Adds an order of a depot behind all entries of a pool, those that no longer count too: 1, 2, 17, 18, 5, 14, 20, 13. It drops none:
-    /// [`drop_entries`] does. The last refusal can't occur: each of the four depots has room for 16 of the 64 entries.
+    /// [`drop_entries`](Held::drop_entries) does. The last refusal can't occur: each of the four depots has room for 16 of the 64 entries.
     pub fn add_order(
         &self,
         genesis: &[u8],
@@ -117,13 +126,6 @@ impl<B: AsRef<[u8]>> Held<B> {
         );
         told(answer.refusal, answer.place, written(out, answer.length))
     }
-}
-
-/// Drops the entries of a pool that no longer count: 1, 2, 18. What it has dropped stays dropped, also where an order that is added then is refused.
-pub fn drop_entries(genesis: &[u8], now: Slot, pool: &mut Pool) -> Result<(), Refusal> {
-    let answer = raw::ledger_drop_entries(genesis, now, *pool);
-    *pool = answer.pool;
-    told(answer.refusal, answer.place, ())
 }
 
 /// The draft, or the block text.

@@ -10,11 +10,11 @@
 //! ```
 //! use ledger::{BlockCount, Held, Kind, Slot, CHAIN_BYTES, GENESIS_BYTES};
 //!
-//! // t = 0, u = 1, display 0 starts at release 7, and one key, of zeros
+//! // t = 0, display 0 starts at release 7, and one key, of zeros
 //! let mut releases = [0; 64];
 //! releases[0] = 7;
 //! let mut buffer = [0; GENESIS_BYTES];
-//! let genesis = ledger::write_genesis(0, 1, &releases, &[[0; 32]], &mut buffer).unwrap();
+//! let genesis = ledger::write_genesis(0, &releases, &[[0; 32]], &mut buffer).unwrap();
 //!
 //! let held = Held::new([0; CHAIN_BYTES]);
 //! let report = held.report(genesis, Slot(1)).unwrap();
@@ -47,7 +47,7 @@ mod verdicts;
 pub use blocks::{blocks, Blocks};
 pub use chains::{check, choose, Checked};
 pub use genesis::{genesis_fault, key, write_genesis, GenesisFault, Part};
-pub use held::{drop_entries, Held, Issue, Report};
+pub use held::{Held, Issue, Report};
 pub use limits::*;
 pub use refusal::{Kind, Refusal};
 pub use single::{digest, read_block, read_number, slot_text, write_block, write_number};

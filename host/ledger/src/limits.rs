@@ -1,7 +1,7 @@
 //! The limits of `include/ledger.h`, by its names.
 
 /// The version of the header that the declarations in [`raw`](crate::raw) follow.
-pub const VERSION: usize = 5;
+pub const VERSION: usize = 6;
 
 /// Displays are 0 to 63.
 pub const DISPLAYS: usize = 64;
@@ -17,7 +17,7 @@ pub const POOL_ROOM: usize = 64;
 pub const DEPOTS: usize = 4;
 /// The most entries of one depot: in a pool that orders are added to all that it has, for every other call those that count.
 pub const DEPOT_ROOM: usize = 16;
-/// The most slots that an order stays pooled: u is 1 to 64.
+/// u is 1 to this, which new tables have. It has no effect.
 pub const POOL_SLOTS: usize = 64;
 /// The most bytes of a number.
 pub const NUMBER_BYTES: usize = 5;

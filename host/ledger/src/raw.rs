@@ -215,7 +215,7 @@ macro_rules! calls {
         fn ledger_check(genesis: &[u8], clock: Slot, chain: &[u8], verdicts: &[u8]) -> CheckAnswer;
         fn ledger_choose(genesis: &[u8], clock: Slot, held: &[u8], delivered: &[u8], verdicts: &[u8]) -> ChooseAnswer;
         fn ledger_adopt(genesis: &[u8], clock: Slot, held: &mut [u8], length: usize, delivered: &[u8], verdicts: &[u8]) -> AdoptAnswer;
-        fn ledger_drop_entries(genesis: &[u8], clock: Slot, pool: Pool) -> PoolAnswer;
+        fn ledger_drop_entries(genesis: &[u8], clock: Slot, held: &[u8], length: usize, pool: Pool) -> PoolAnswer;
         fn ledger_add_order(genesis: &[u8], clock: Slot, held: &[u8], length: usize, pool: Pool, order: Order, depot: u32) -> PoolAnswer;
         fn ledger_draft(genesis: &[u8], clock: Slot, held: &[u8], length: usize, pool: Pool, controller: u32, slot_signature: Signature,
                         out: &mut [u8]) -> IssueAnswer;
@@ -360,7 +360,7 @@ mod tests {
         let (one, other) = (Signature([7; 64]), Signature([8; 64]));
         for [genesis, held, out] in emptied([&GENESIS, &chain, &[0; 192]]) {
             let (at, held_mut, out) = (held.len(), &mut held.to_vec(), &mut out.to_vec());
-            same!(ledger_drop_entries(genesis, now, pool));
+            same!(ledger_drop_entries(genesis, now, held, at, pool));
             same!(ledger_add_order(genesis, now, held, at, pool, ORDER, 3));
             same!(ledger_draft(genesis, now, held, at, pool, 1, one, out));
             same!(ledger_block_text(genesis, now, held, at, pool, 1, one, out));

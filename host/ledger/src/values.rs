@@ -106,7 +106,7 @@ impl Default for Pool {
 #[derive(Debug, Clone, Copy, PartialEq, Eq)]
 pub struct Signature(pub [u8; SIGNATURE_BYTES]);
 
-/// A genesis table: n controllers, of whom t may be faulty, and u slots that an order stays pooled.
+/// A genesis table: n controllers, of whom t may be faulty, and u, which has no effect.
 #[repr(C)]
 #[derive(Debug, Clone, Copy, PartialEq, Eq)]
 pub struct Genesis {

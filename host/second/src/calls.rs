@@ -10,7 +10,7 @@ pub type Choose = for<'a> fn(&[u8], Slot, &'a [u8], &'a [u8], &[u8]) -> (&'a [u8
 pub type Adopt =
     fn(&[u8], Slot, &mut [u8], usize, &[u8], &[u8]) -> Result<(usize, BlockCount), Refusal>;
 pub type Report = fn(&[u8], Slot, &[u8], usize) -> Result<report::Report, Refusal>;
-pub type DropEntries = fn(&[u8], Slot, &mut Pool) -> Result<(), Refusal>;
+pub type DropEntries = fn(&[u8], Slot, &[u8], usize, &mut Pool) -> Result<(), Refusal>;
 /// With the depot that the order comes from.
 pub type AddOrder = fn(&[u8], Slot, &[u8], usize, &mut Pool, Order, u32) -> Result<(), Refusal>;
 /// The draft, or the block text.

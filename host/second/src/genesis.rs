@@ -1,4 +1,4 @@
-//! The genesis table (01, "Genesis"; its least n and its depth: 02, e), and what every call looks at first: the table and the clock.
+//! The genesis table (01, "Genesis"; its least n and its depth: 02, e; its u: 02, n), and what every call looks at first: the table and the clock.
 use super::order::{Releases, Slot, SLOTS};
 use super::{lent, number, refusal, Refusal};
 
@@ -12,7 +12,7 @@ pub struct Genesis {
     pub n: u32,
     /// How many of them may be faulty.
     pub t: u32,
-    /// "The slots that an order stays pooled."
+    /// "u is still read, must still be 1 to 64, and has no effect" (02, n).
     pub u: u32,
     /// "The starting release of displays 0 to 63."
     pub releases: Releases,

@@ -1,6 +1,6 @@
 //! Issuing: the draft, the block text and the append (01, "Draft and append").
 use super::block::{self, Block, ORDERS};
-use super::chain;
+use super::chain::{self, Summary};
 use super::genesis::Opening;
 use super::order::Slot;
 use super::pool::{self, Pool};
@@ -26,17 +26,17 @@ impl Issue<'_> {
         block_signature: [u8; 64],
     ) -> Result<Block, Refusal> {
         let opening = Opening::new(self.genesis, self.now)?;
-        let held = chain::summary(&opening, held, held_length)?.whole;
-        let entries = self.pool.counting(&opening)?;
+        let Summary { whole, settled } = chain::summary(&opening, held, held_length)?;
+        let entries = self.pool.counting(self.now, &settled.releases)?;
         if self.controller != opening.genesis.turn(self.now) {
             return Err(refusal(12));
         }
-        if held.last == Some(self.now) {
+        if whole.last == Some(self.now) {
             return Err(refusal(6));
         }
-        let (orders, _) = pool::taken(&entries, held.releases, *ORDERS.end() as usize);
+        let (orders, _) = pool::taken(&entries, whole.releases, *ORDERS.end() as usize);
         Ok(Block {
-            link: held.link()?,
+            link: whole.link()?,
             orders,
             slot: self.now,
             slot_signature: self.slot_signature,
@@ -92,7 +92,7 @@ mod tests {
     use super::*;
     use crate::order::{BlockCount, Order};
     use crate::pool::Entry;
-    use crate::samples::{self, entry, in_turn, order, Case, FILLER};
+    use crate::samples::{self, entry, in_turn, old, order, Case, FILLER};
     use crate::sha256;
 
     fn call_draft(case: &mut Case) -> Result<usize, Refusal> {
@@ -184,7 +184,7 @@ mod tests {
     #[test]
     fn no_entries_no_orders() {
         let invalid = entry(order(2, 41, 42), 20);
-        let old = entry(order(2, 40, 41), 15);
+        let old = old();
         for entries in [
             &[][..],
             &[invalid],
@@ -204,8 +204,8 @@ mod tests {
     fn valid_entries_in_order() {
         let entries = [
             entry(order(2, 41, 42), 20),
-            entry(order(2, 40, 41), 15),
-            entry(order(2, 40, 43), 16),
+            entry(order(2, 39, 40), 20),
+            entry(order(2, 40, 43), 1),
             entry(order(7, 0, 5), 18),
             entry(order(2, 43, 43), 18),
             entry(order(2, 43, 44), 17),

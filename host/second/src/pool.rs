@@ -1,7 +1,7 @@
-//! The order pool (01, "Pool an order"; its depots: 02, d; dropping and adding apart: 02, i).
+//! The order pool (01, "Pool an order"; its depots: 02, d; dropping and adding apart: 02, i; what counts: 02, n).
 use std::ops::RangeInclusive;
 
-use super::chain;
+use super::chain::{self, Summary};
 use super::genesis::Opening;
 use super::order::{apply, valid, Order, Releases, Slot};
 use super::{refusal, Refusal};
@@ -52,22 +52,22 @@ impl Pool {
     }
 
     /// The entries that count, in order, or 18, also for "a pool with more than 16 counting entries of one depot".
-    pub fn counting(&self, opening: &Opening) -> Result<Vec<Entry>, Refusal> {
-        let entries = self.good_entries(opening.now)?;
-        uncrowded(counting_of(&entries, opening))
+    pub fn counting(&self, now: Slot, settled: &Releases) -> Result<Vec<Entry>, Refusal> {
+        let entries = self.good_entries(now)?;
+        uncrowded(counting_of(&entries, settled))
     }
 
     /// All entries, in order, or 18, also for "a depot with more than 16 entries, counting or not".
-    fn present(&self, opening: &Opening) -> Result<Vec<Entry>, Refusal> {
-        uncrowded(self.good_entries(opening.now)?)
+    fn present(&self, now: Slot) -> Result<Vec<Entry>, Refusal> {
+        uncrowded(self.good_entries(now)?)
     }
 }
 
-/// Those of these entries that count.
-fn counting_of(entries: &[Entry], opening: &Opening) -> Vec<Entry> {
+/// Those of these entries that count, where these releases are settled.
+fn counting_of(entries: &[Entry], settled: &Releases) -> Vec<Entry> {
     entries
         .iter()
-        .filter(|entry| entry.counts(opening))
+        .filter(|entry| entry.counts(settled))
         .copied()
         .collect()
 }
@@ -94,9 +94,10 @@ impl Entry {
             && DEPOTS.contains(&self.depot)
     }
 
-    /// "An entry counts while now minus its slot is less than u." For an entry whose slot is not above now.
-    fn counts(&self, opening: &Opening) -> bool {
-        opening.now.0 - self.slot.0 < opening.genesis.u
+    /// "An entry now stops counting when its display's settled release is above the release that it expects, and not before." For a display that
+    /// there is.
+    fn counts(&self, settled: &Releases) -> bool {
+        settled[self.order.display as usize] <= self.order.expected
     }
 }
 
@@ -139,10 +140,18 @@ fn joined(mut entries: Vec<Entry>, new: Entry) -> Result<Pool, Refusal> {
     Ok(Pool::of(&entries))
 }
 
-/// 02, i: "one call drops the entries that no longer count": 1, 2, 18. It "leaves zeros past the count".
-pub fn drop_entries(genesis: &[u8], now: Slot, pool: &mut Pool) -> Result<(), Refusal> {
+/// 02, i: "one call drops the entries that no longer count", and leaves "zeros past the count"; 02, n: "the dropping call, which now takes the held
+/// chain, gives 1, 2, 17, 18".
+pub fn drop_entries(
+    genesis: &[u8],
+    now: Slot,
+    held: &[u8],
+    held_length: usize,
+    pool: &mut Pool,
+) -> Result<(), Refusal> {
     let opening = Opening::new(genesis, now)?;
-    *pool = Pool::of(&pool.counting(&opening)?);
+    let settled = chain::summary(&opening, held, held_length)?.settled;
+    *pool = Pool::of(&pool.counting(now, &settled.releases)?);
     Ok(())
 }
 
@@ -158,10 +167,10 @@ pub fn add_order(
     depot: u32,
 ) -> Result<(), Refusal> {
     let opening = Opening::new(genesis, now)?;
-    let held = chain::summary(&opening, held, held_length)?.whole;
-    let present = pool.present(&opening)?;
-    let counting = counting_of(&present, &opening);
-    judge_offer(&order, depot, &counting, held.releases)?;
+    let Summary { whole, settled } = chain::summary(&opening, held, held_length)?;
+    let present = pool.present(now)?;
+    let counting = counting_of(&present, &settled.releases);
+    judge_offer(&order, depot, &counting, whole.releases)?;
     let slot = now;
     *pool = joined(present, Entry { order, slot, depot })?;
     Ok(())
@@ -179,9 +188,9 @@ pub fn drop_and_add(
     depot: u32,
 ) -> Result<(), Refusal> {
     let opening = Opening::new(genesis, now)?;
-    let held = chain::summary(&opening, held, held_length)?.whole;
-    let counting = pool.counting(&opening)?;
-    judge_offer(&order, depot, &counting, held.releases)?;
+    let Summary { whole, settled } = chain::summary(&opening, held, held_length)?;
+    let counting = pool.counting(now, &settled.releases)?;
+    judge_offer(&order, depot, &counting, whole.releases)?;
     let slot = now;
     *pool = joined(counting, Entry { order, slot, depot })?;
     Ok(())
@@ -192,8 +201,10 @@ mod tests {
     use super::*;
     use crate::calls::AddOrder;
     use crate::chance::Chance;
+    use crate::genesis::Genesis;
     use crate::number::LARGEST;
-    use crate::samples::{self, counting, crowd, entry, in_turn, old, order, Case};
+    use crate::report;
+    use crate::samples::{self, counting, crowd, entry, in_turn, old, order, Case, BLOCK};
 
     fn add(case: &mut Case) -> Option<Refusal> {
         case.add_order(add_order).err()
@@ -203,7 +214,7 @@ mod tests {
         case.drop_entries(drop_entries).err()
     }
 
-    /// One who holds no blocks at slot 20; u is 5, display 2 at release 40.
+    /// One who holds no blocks at slot 20: display 2 is settled at release 40, the others at 0.
     fn at_20(depot: u32, pool: &Pool, order: Order, call: AddOrder) -> Result<Pool, Refusal> {
         let mut after = pool.clone();
         let genesis = samples::table();
@@ -217,7 +228,7 @@ mod tests {
 
     fn dropped(pool: &Pool) -> Result<Pool, Refusal> {
         let mut after = pool.clone();
-        drop_entries(&samples::table(), Slot(20), &mut after)?;
+        drop_entries(&samples::table(), Slot(20), &[], 0, &mut after)?;
         Ok(after)
     }
 
@@ -281,17 +292,92 @@ mod tests {
         assert_eq!(offered(&pool, new), Ok(Pool::of(&after)));
     }
 
+    /// Whatever their slots are.
     #[test]
-    fn entries_count_while_younger_than_u() {
+    fn entries_count_until_more_is_settled_than_they_expect() {
         let entries = [
-            entry(order(2, 40, 41), 15),
-            entry(order(2, 40, 42), 16),
-            entry(order(2, 42, 43), 1),
+            entry(order(2, 39, 41), 20),
+            entry(order(2, 40, 42), 1),
+            entry(order(2, 0, LARGEST), 19),
             entry(order(2, 42, 44), 20),
+            entry(order(2, LARGEST, 0), 20),
+            entry(order(3, 0, 0), 20),
         ];
+        let counting = [entries[1], entries[3], entries[4], entries[5]];
+        assert_eq!(dropped(&Pool::of(&entries)), Ok(Pool::of(&counting)));
         let new = order(2, 44, 45);
-        let after = [entries[1], entries[3], entry(new, 20)];
+        let after = [&counting[..], &[entry(new, 20)]].concat();
         assert_eq!(offered(&Pool::of(&entries), new), Ok(Pool::of(&after)));
+    }
+
+    /// How many of seven entries, which expect display 2 at 40 to 46, are left at a slot over so many bytes of the sample chain. Its stamps are 1, 3,
+    /// 4, 6 and 9, and its blocks take display 2 from 40 on, one release each.
+    fn left(genesis: &Genesis, now: u32, blocks: usize) -> Result<u32, Refusal> {
+        let entries: Vec<Entry> = (40..47).map(|r| entry(order(2, r, r + 1), 1)).collect();
+        let mut pool = Pool::of(&entries);
+        let genesis = genesis.bytes();
+        let held = samples::good_chain(&genesis);
+        let length = BLOCK * blocks;
+        drop_entries(&genesis, Slot(now), &held, length, &mut pool)?;
+        let left = &entries[entries.len() - pool.count as usize..];
+        assert_eq!(pool, Pool::of(left));
+        Ok(pool.count)
+    }
+
+    /// What is settled decides, not what is held: at n = 6, t = 1 the depth is 4, at n = 4, t = 1 it is 10.
+    #[test]
+    fn what_is_settled_decides() {
+        let six = samples::genesis(6, 1, 5);
+        for (now, settled) in [(9, 3), (10, 3), (11, 4), (13, 4), (14, 5), (256, 5)] {
+            assert_eq!(left(&six, now, 5), Ok(7 - settled), "now {now}");
+            assert_eq!(left(&six, now, 0), Ok(7));
+        }
+        for (now, settled) in [(1, 0), (5, 0), (6, 1), (256, 1)] {
+            assert_eq!(left(&six, now, 1), Ok(7 - settled), "now {now}");
+        }
+        let four = samples::genesis(4, 1, 5);
+        for (now, settled) in [(9, 0), (11, 0), (12, 1), (14, 2), (20, 5)] {
+            assert_eq!(left(&four, now, 5), Ok(7 - settled), "now {now}");
+        }
+    }
+
+    /// "u is still read, must still be 1 to 64, and has no effect."
+    #[test]
+    fn u_has_no_effect() {
+        for u in 1..=64 {
+            for (now, settled) in [(9, 3), (14, 5), (256, 5)] {
+                let answer = left(&samples::genesis(6, 1, u), now, 5);
+                assert_eq!(answer, Ok(7 - settled), "u = {u}, now {now}");
+            }
+        }
+        for u in [0, 65] {
+            let answer = left(&samples::genesis(6, 1, u), 9, 5);
+            assert_eq!(answer, Err(refusal(1)), "u = {u}");
+        }
+    }
+
+    /// An entry whose order a block that is not settled has overtaken counts, is invalid, stays and takes room.
+    #[test]
+    fn counting_and_invalid() {
+        let mut case = Case::good();
+        (case.held, case.now) = (case.delivered.clone(), Slot(11));
+        case.held_length = case.held.len();
+        case.pool = Pool::of(&[]);
+        let overtaken = entry(order(2, 44, 46), 7).of_depot(3);
+        crowd(&mut case.pool, overtaken, 3, 16);
+        case.order = order(2, 45, 46);
+        let full = case.pool.clone();
+        assert_eq!(drop(&mut case), None);
+        assert_eq!(case.pool, full);
+        samples::answers(
+            Some(refusal(20)),
+            "display 2 settled at 44",
+            case.clone(),
+            add,
+        );
+        case.now = Slot(14);
+        assert_eq!(drop(&mut case), None);
+        assert_eq!((case.pool.count, add(&mut case)), (0, None));
     }
 
     #[test]
@@ -301,7 +387,7 @@ mod tests {
             count: 2,
             entries: [spare; ROOM],
         };
-        pool.entries[0] = entry(order(2, 40, 41), 3);
+        pool.entries[0] = old();
         pool.entries[1] = entry(order(2, 40, 41), 17);
         let kept = pool.entries[1];
         let new = order(0, 0, 1);
@@ -398,38 +484,28 @@ mod tests {
         assert_eq!(add(held.len(), order(2, 45, 46)), Ok(4));
     }
 
-    /// How many entries of slot 7 are left at a slot, with this u.
-    fn left(u: u32, now: u32) -> Result<u32, Refusal> {
-        let genesis = samples::genesis(6, 1, u).bytes();
-        let mut pool = Pool::of(&[entry(order(0, 0, 1), 7)]);
-        drop_entries(&genesis, Slot(now), &mut pool).map(|()| pool.count)
-    }
-
+    /// 18 still judges the entry slots.
     #[test]
     fn the_clock_set_back() {
-        assert_eq!(left(5, 6), Err(refusal(18)));
-        assert_eq!(left(5, 7), Ok(1));
-        assert_eq!(left(5, 11), Ok(1));
-        assert_eq!(left(5, 12), Ok(0));
+        let drop_at = |now| {
+            let mut pool = Pool::of(&[entry(order(0, 0, 1), 7)]);
+            drop_entries(&samples::table(), Slot(now), &[], 0, &mut pool).map(|()| pool.count)
+        };
+        assert_eq!(drop_at(6), Err(refusal(18)));
+        assert_eq!(drop_at(7), Ok(1));
+        assert_eq!(drop_at(256), Ok(1));
     }
 
-    #[test]
-    fn longest_and_shortest_stay() {
-        for (u, now, counts) in [(1, 7, 1), (1, 8, 0), (64, 70, 1), (64, 71, 0)] {
-            assert_eq!(left(u, now), Ok(counts), "u = {u}, now {now}");
-        }
-    }
-
-    /// Entries that no longer count stay in their places, and are not applied: with 40 to 41 applied, 41 to 42 would be valid.
+    /// Entries that no longer count stay in their places.
     #[test]
     fn adding_drops_nothing() {
         let entries = [
-            entry(order(2, 40, 41), 15),
+            entry(order(2, 39, 41), 15),
             entry(order(3, 0, 7), 16).of_depot(1),
-            entry(order(3, 0, 9), 1).of_depot(2),
+            entry(order(2, 0, 9), 1).of_depot(2),
         ];
         let pool = Pool::of(&entries);
-        for bad in [order(2, 41, 42), order(3, 9, 10), order(3, 0, 1)] {
+        for bad in [order(2, 41, 42), order(2, 9, 10), order(3, 0, 1)] {
             assert_eq!(added_by(3, &pool, bad), Err(refusal(14)));
         }
         for good in [order(2, 40, 50), order(3, 7, 8)] {
@@ -475,18 +551,17 @@ mod tests {
     }
 
     /// "The first and then the second answer as the old call did, wherever that did not refuse. If the second refuses, the pool stays cleared": then
-    /// with the old call's number. The old call judged the held chain before the pool.
+    /// with the old call's number.
     #[test]
     fn dropping_and_then_adding_is_the_old_call() {
         let mut chance = Chance::of_seed(12);
-        for _ in 0..20_000 {
+        for _ in 0..4_000 {
             let case = chance.issuing();
             let mut at_once = case.clone();
             let expected = at_once.add_order(drop_and_add);
             let mut apart = case.clone();
             if let Err(refused) = apart.drop_entries(drop_entries) {
-                assert!(expected == Err(refused) || expected.unwrap_err().number == 17);
-                assert_eq!(apart, case);
+                assert_eq!((expected, apart), (Err(refused), case));
                 continue;
             }
             let cleared = apart.clone();
@@ -494,6 +569,35 @@ mod tests {
             let after = if expected.is_ok() { at_once } else { cleared };
             assert_eq!(apart, after);
         }
+    }
+
+    /// "A dropped entry could not have become valid later in any chain that extends the settled blocks": no release falls on the way.
+    #[test]
+    fn no_dropped_entry_becomes_valid() {
+        let mut chance = Chance::of_seed(13);
+        let mut dropped = 0;
+        for _ in 0..4_000 {
+            let mut case = chance.issuing();
+            let before = case.pool.clone();
+            if drop(&mut case).is_some() {
+                continue;
+            }
+            let mut releases = case.report(report::report).unwrap().releases;
+            let counts = |entry: &&Entry| case.pool.entries.contains(entry);
+            let (_, gone): (Vec<&Entry>, Vec<&Entry>) = before.entries[..before.count as usize]
+                .iter()
+                .partition(counts);
+            dropped += gone.len();
+            for _ in 0..10 {
+                assert!(!gone.iter().any(|entry| valid(&entry.order, &releases)));
+                let next = chance.order_at(&mut releases.clone());
+                // no block has an order that can't be written
+                if next.in_range() {
+                    apply(&next, &mut releases);
+                }
+            }
+        }
+        assert!(dropped > 1_000, "{dropped}");
     }
 
     #[test]
@@ -572,6 +676,7 @@ mod tests {
     #[test]
     fn bad_held_chains() {
         samples::refuses_bad_held(add);
+        samples::refuses_bad_held(drop);
     }
 
     /// "A depot with more than 16 entries, counting or not, is 18 for the adding call."
@@ -586,7 +691,7 @@ mod tests {
     #[test]
     fn a_refusal_drops_nothing() {
         let mut case = Case::good();
-        case.pool = Pool::of(&[entry(order(0, 0, 1), 1), entry(order(1, 0, 1), 2)]);
+        case.pool = Pool::of(&[old(), old()]);
         case.pool.entries[2] = entry(order(u32::MAX, u64::MAX, 7), 0);
         case.order = order(2, 39, 41);
         samples::answers(Some(refusal(14)), "old entries", case, add);

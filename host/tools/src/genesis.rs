@@ -1,7 +1,7 @@
 //! A genesis as text, and as bytes.
 use std::str::FromStr;
 
-use ledger::{Genesis, Release, DISPLAYS, GENESIS_BYTES, KEY_BYTES, LARGEST, SLOTS};
+use ledger::{Genesis, Release, DISPLAYS, GENESIS_BYTES, KEY_BYTES, LARGEST, POOL_SLOTS, SLOTS};
 
 use crate::Answer;
 
@@ -33,10 +33,21 @@ impl Text {
             [] => Ok(()),
             ["n", value] => once(&mut self.n, value),
             ["t", value] => once(&mut self.t, value),
-            ["u", value] => once(&mut self.u, value),
+            ["u", value] => self.no_effect(value),
             ["release", display, release] => self.release(small(display)?, number(release)?),
             ["key", controller, digits] => self.key(small(controller)?, digits),
             _ => Err("not a line of a genesis".into()),
+        }
+    }
+
+    /// A u is looked at, as in a table that is read, and not written: a new table has its own.
+    fn no_effect(&mut self, value: &str) -> Result<(), String> {
+        once(&mut self.u, value)?;
+        match self.u {
+            Some(u) if u < 1 || u as usize > POOL_SLOTS => Err(format!(
+                "u is {u}: it has no effect, and must be 1 to {POOL_SLOTS}"
+            )),
+            _ => Ok(()),
         }
     }
 
@@ -64,7 +75,7 @@ impl Text {
 
     fn bytes(self) -> Answer {
         let said = |value: Option<u32>, name| value.ok_or(format!("no line with {name}"));
-        let (n, t, u) = (said(self.n, "n")?, said(self.t, "t")?, said(self.u, "u")?);
+        let (n, t) = (said(self.n, "n")?, said(self.t, "t")?);
         if n as usize != self.keys.len() {
             return Err(format!("n is {n}, and {} keys are listed", self.keys.len()));
         }
@@ -73,7 +84,7 @@ impl Text {
             releases[display] = release;
         }
         let mut out = [0; GENESIS_BYTES];
-        let bytes = ledger::write_genesis(t, u, &releases, &self.keys, &mut out);
+        let bytes = ledger::write_genesis(t, &releases, &self.keys, &mut out);
         bytes.map(<[u8]>::to_vec).map_err(|fault| fault.to_string())
     }
 }
@@ -119,7 +130,8 @@ pub fn show(bytes: &[u8]) -> Result<String, String> {
         Ok(()) => "a bad genesis".into(),
     };
     let table = Genesis::read(bytes).map_err(|_| wrong())?;
-    let mut text = format!("n {}\nt {}\nu {}\n", table.n, table.t, table.u);
+    let mut text = format!("n {}\nt {}\n", table.n, table.t);
+    text += &format!("u {}  # of no effect\n", table.u);
     for (display, release) in table.releases.iter().enumerate() {
         if *release != 0 {
             text += &format!("release {display} {release}\n");
@@ -148,7 +160,7 @@ fn settling(depth: u64) -> String {
 mod tests {
     use super::*;
 
-    /// n = 1, t = 0, u = 1, display 0 at release 7, and a key of 32 bytes: the bytes of `docs/FORMATS.md`, but for the key.
+    /// n = 1, t = 0, display 0 at release 7, and a key of 32 bytes: the bytes of `docs/FORMATS.md`, but for u and the key.
     const TEXT: &str = "\
         # a station of one\n\
         n 1\nt 0\nu 1\nrelease 0 7  # the first layout\n\
@@ -158,7 +170,7 @@ mod tests {
         let half = [
             0, 17, 34, 51, 68, 85, 102, 119, 136, 153, 170, 187, 204, 221, 238, 255,
         ];
-        [&[1, 0, 1, 7][..], &[0; 63], &half, &half].concat()
+        [&[1, 0, 64, 7][..], &[0; 63], &half, &half].concat()
     }
 
     #[test]
@@ -166,12 +178,25 @@ mod tests {
         assert_eq!(make(TEXT), Ok(bytes()));
     }
 
+    /// "New tables are written with 64 .. whatever u was", also if it was not said.
+    #[test]
+    fn a_u_of_64_whatever_was_asked() {
+        for u in ["", "u 5\n", "u 64\n"] {
+            assert_eq!(make(&TEXT.replace("u 1\n", u)), Ok(bytes()));
+        }
+    }
+
     #[test]
     fn shown() {
-        let text = "n 1\nt 0\nu 1\nrelease 0 7\n\
+        let text = "n 1\nt 0\nu 64  # of no effect\nrelease 0 7\n\
             key 1 00112233445566778899aabbccddeeff00112233445566778899aabbccddeeff\n\
             # settled: slot + 1 < now\n";
         assert_eq!(show(&bytes()), Ok(text.into()));
+        let mut old = bytes();
+        old[2] = 5;
+        let old_text = text.replace("u 64", "u 5");
+        assert_eq!(show(&old), Ok(old_text.clone()));
+        assert_eq!(make(&old_text), Ok(bytes()));
     }
 
     /// 28 controllers of whom 8 may be faulty wait 121 slots; with 9 it is 514, and the last slot is 256.
@@ -179,7 +204,7 @@ mod tests {
     fn nothing_settles() {
         let last = |t: u32| {
             let (keys, mut out) = ([[7; KEY_BYTES]; 28], [0; GENESIS_BYTES]);
-            let bytes = ledger::write_genesis(t, 1, &[0; DISPLAYS], &keys, &mut out).unwrap();
+            let bytes = ledger::write_genesis(t, &[0; DISPLAYS], &keys, &mut out).unwrap();
             show(bytes).unwrap().lines().last().unwrap().to_string()
         };
         assert_eq!(last(8), "# settled: slot + 121 < now");
@@ -193,7 +218,7 @@ mod tests {
         let mut releases = [0; DISPLAYS];
         (releases[2], releases[62], releases[63]) = (40, 1 << 32, LARGEST);
         let mut out = [0; GENESIS_BYTES];
-        let bytes = ledger::write_genesis(1, 64, &releases, &keys, &mut out).unwrap();
+        let bytes = ledger::write_genesis(1, &releases, &keys, &mut out).unwrap();
         let text = show(bytes).unwrap();
         assert!(text.contains("01  # as controller 1\n"), "{text}");
         assert_eq!(make(&text), Ok(bytes.to_vec()));
@@ -203,7 +228,7 @@ mod tests {
     fn not_made() {
         let changed = |from: &str, to: &str| make(&TEXT.replace(from, to)).unwrap_err();
         for (from, to, wrong) in [
-            ("u 1\n", "", "no line with u"),
+            ("t 0\n", "", "no line with t"),
             ("n 1", "n 2", "n is 2, and 1 keys are listed"),
             (
                 "t 0",
@@ -232,7 +257,7 @@ mod tests {
             (
                 "u 1",
                 "u 0",
-                "u = 0: an order stays pooled for 1 to 64 slots",
+                "line 4: u is 0: it has no effect, and must be 1 to 64",
             ),
         ] {
             assert_eq!(changed(from, to), wrong);

@@ -80,7 +80,7 @@ mod tests {
         [&[0x63, 1, 0, 1, 7][..], &[0; 63 + 32], &[1]].concat()
     }
 
-    const SHOWN: &str = "n 1\nt 0\nu 1\nrelease 0 7\n\
+    const SHOWN: &str = "n 1\nt 0\nu 1  # of no effect\nrelease 0 7\n\
         key 1 0000000000000000000000000000000000000000000000000000000000000000\n\
         # settled: slot + 1 < now\n";
 

@@ -18,7 +18,7 @@ ledger-tools refusal NUMBER                  shows one
 The text of a genesis has a line for each of these; what follows a # is left out:
     n 6                 so many controllers
     t 1                 so many of them may be faulty
-    u 5                 so many slots an order stays pooled
+    u 64                of no effect, and may be left out: a new genesis has 64, whatever stands here
     release 2 40        display 2 starts at release 40; displays that are not listed start at 0
     key 1 0A1B..        the key of controller 1, 64 hexadecimal digits; one such line for each controller, from 1 on
 ";

@@ -331,12 +331,24 @@ pub fn report(genesis: &[u8], now: Slot, held: &[u8], held_length: usize) -> Ans
     answer
 }
 
-pub fn drop_entries(genesis: &[u8], now: Slot, pool: &mut Pool) -> Answer<()> {
+pub fn drop_entries(
+    genesis: &[u8],
+    now: Slot,
+    held: &[u8],
+    held_length: usize,
+    pool: &mut Pool,
+) -> Answer<()> {
     let before = pool.clone();
     let mut other_pool = pool.clone();
-    let answer = proved::drop_entries(genesis, now, pool);
-    let other = pool::drop_entries(genesis, now, &mut other_pool);
-    let given: Given = &[("genesis", &Hex(genesis)), ("now", &now), ("pool", &before)];
+    let answer = proved::drop_entries(genesis, now, held, held_length, pool);
+    let other = pool::drop_entries(genesis, now, held, held_length, &mut other_pool);
+    let given: Given = &[
+        ("genesis", &Hex(genesis)),
+        ("now", &now),
+        ("held", &Hex(held)),
+        ("held length", &held_length),
+        ("pool", &before),
+    ];
     same("drop", given, (answer, &*pool), (other, &other_pool));
     answer
 }
@@ -452,7 +464,7 @@ pub const CALLS: [Call; 9] = [
     Call { name: "check", refusals: &[1, 2, 16, 3, 4, 5, 6, 7, 8, 9, 10], make: |case| case.check(check).err() },
     Call { name: "choose", refusals: &[1, 2, 17, 16, 3, 4, 5, 6, 7, 8, 9, 10, 11], make: |case| case.choose(choose).1 },
     Call { name: "adopt", refusals: &[1, 2, 17, 16, 3, 4, 5, 6, 7, 8, 9, 10, 11, 15], make: |case| case.adopt(adopt).err() },
-    Call { name: "drop", refusals: &[1, 2, 18], make: |case| case.drop_entries(drop_entries).err() },
+    Call { name: "drop", refusals: &[1, 2, 17, 18], make: |case| case.drop_entries(drop_entries).err() },
     Call { name: "add", refusals: &[1, 2, 17, 18, 5, 14, 20], make: |case| case.add_order(add_order).err() },
     Call { name: "draft", refusals: &[1, 2, 17, 18, 12, 6, 15], make: |case| case.write(draft).err() },
     Call { name: "block text", refusals: &[1, 2, 17, 18, 12, 6, 15], make: |case| case.write(block_text).err() },

@@ -123,9 +123,12 @@ fn every_clock_length_and_count() {
 }
 
 /// The sample chain held at a station of every size, in the last slot and where one of its blocks begins to be settled: in the slot before and in
-/// that slot.
+/// that slot. Of the pool's entries, which expect display 2 at 39 to 46, those count that expect what is settled or more.
 #[test]
 fn every_size_of_a_station() {
+    let entries: Vec<Entry> = (39..47)
+        .map(|release| entry(order(2, release, release + 1), 1))
+        .collect();
     let sizes = (1..=31).flat_map(|n| (0..=(n - 1) / 3).map(move |t| (n, t)));
     for (n, t) in sizes {
         let table = samples::genesis(n, t, 5);
@@ -139,9 +142,22 @@ fn every_size_of_a_station() {
                 held: held.clone(),
                 held_length: held.len(),
                 delivered: held.clone(),
+                pool: Pool::of(&entries),
                 ..good()
             };
             alike(&case);
+            // 17 where the clock is set back
+            let Ok(report) = case.report(both::report) else {
+                continue;
+            };
+            let settled = report.releases[2];
+            let mut dropped = case.clone();
+            dropped.drop_entries(both::drop_entries).unwrap();
+            let left = entries
+                .iter()
+                .filter(|entry| entry.order.expected >= settled);
+            let left: Vec<Entry> = left.copied().collect();
+            assert_eq!(dropped.pool, Pool::of(&left), "n = {n}, t = {t}, now {now}");
         }
     }
 }
@@ -305,19 +321,31 @@ fn depots_above_3() {
     }
 }
 
-/// A pool in which the asker's depot and another have so many entries, half a slot too old or none of them.
+/// A pool in which the asker's depot and another have so many entries, half of which no longer count, or none.
 fn crowded(asker: u32, own: usize, others: usize, old: bool) -> Pool {
-    let of = |depot: u32, slot| entry(order(9, 9, 9), slot).of_depot(depot);
-    let mut entries = vec![of(asker, 16); own];
+    let of = |depot: u32| samples::counting().of_depot(depot);
+    let mut entries = vec![of(asker); own];
     for place in 0..others {
-        entries.insert(place * own / others.max(1), of((asker + 1) % 4, 16));
+        entries.insert(place * own / others.max(1), of((asker + 1) % 4));
     }
-    let aged = if old { 15 } else { 16 };
-    entries
-        .iter_mut()
-        .step_by(2)
-        .for_each(|entry| entry.slot = Slot(aged));
+    for entry in entries.iter_mut().step_by(2).filter(|_| old) {
+        *entry = samples::old().of_depot(entry.depot);
+    }
     Pool::of(&entries)
+}
+
+/// The most of the entries that count, which are for display 9, that are one depot's.
+fn most_counting(pool: &Pool) -> usize {
+    let counting = |entry: &&Entry| entry.order.display == 9;
+    let of = |depot| move |entry: &&Entry| entry.depot == depot;
+    let count = |depot| {
+        pool.entries
+            .iter()
+            .filter(counting)
+            .filter(of(depot))
+            .count()
+    };
+    (0..4).map(count).fold(0, usize::max)
 }
 
 /// Up to 20 entries of the asker's depot and of another, all counting and half of them. Adding: 18 exactly if one has more than 16, and then 20
@@ -333,19 +361,14 @@ fn crowded_depots() {
                 ..good()
             };
             alike(&case);
-            let most = |slot| {
-                let of = |depot| move |entry: &&Entry| entry.depot == depot && entry.slot >= slot;
-                let count = |depot| case.pool.entries.iter().filter(of(depot)).count();
-                count(asker).max(count((asker + 1) % 4))
-            };
-            let [present, counting] = [Slot(15), Slot(16)].map(most);
             let added = case.clone().add_order(both::add_order);
-            let expected = match present {
+            let expected = match own.max(others) {
                 17.. => Err(refusal(18)),
                 _ if own == 16 => Err(refusal(20)),
                 _ => Ok(()),
             };
             assert_eq!(added, expected, "{own} and {others}");
+            let counting = most_counting(&case.pool);
             let dropped = case.drop_entries(both::drop_entries);
             assert_eq!(dropped.is_err(), counting > 16, "{own} and {others}");
         }
@@ -362,8 +385,8 @@ fn dropping_and_then_adding_is_the_old_call() {
         let mut case = chance.issuing();
         let mut at_once = case.clone();
         let expected = at_once.add_order(pool::drop_and_add);
-        if case.drop_entries(both::drop_entries).is_err() {
-            assert!(expected.is_err());
+        if let Err(refused) = case.drop_entries(both::drop_entries) {
+            assert_eq!(expected, Err(refused));
             continue;
         }
         let cleared = case.pool.clone();
@@ -372,7 +395,7 @@ fn dropping_and_then_adding_is_the_old_call() {
         assert_eq!(case.pool, after);
         met.insert(expected.map_or_else(|refused| refused.number, |()| 0));
     }
-    let expected = BTreeSet::from([0, 17, 5, 14, 20]);
+    let expected = BTreeSet::from([0, 5, 14, 20]);
     assert!(!all_are_made() || met == expected, "{met:?}");
 }
 

@@ -6,8 +6,8 @@ use std::process::Command;
 use trials::programs::{compiler, program, root};
 
 /// n = 2 and t = 0: the turns alternate from controller 1 on, and a block is settled exactly if its slot + 1 < now. A block has 32 + 1 + 1 + 64 + 64
-/// = 162 bytes and those of its orders: 3 for display 4 from 7 to 8, and 4 from 8 to 300, which takes two bytes. In slot 3 the order 7 to 8 still
-/// counts (3 - 1 < u = 3), but is no longer valid, so the third block has none.
+/// = 162 bytes and those of its orders: 3 for display 4 from 7 to 8, and 4 from 8 to 300, which takes two bytes. In slot 3 the order 7 to 8 no
+/// longer counts, since release 8 is settled, so the third block has none.
 const ACCOUNT: &str = "\
 slot 1: controller 1 pools display 4 from 7 to 8
 slot 1: controller 1 issues a block of 165 bytes and holds 165 bytes

@@ -29,11 +29,11 @@ first-eight-requires c κs = search needs
 returns : tie.Need-returns
 returns c =
     let a = c .before .before .before .before .before .before .before .before .args in
-    let l = taken (a .opened) (a .held) (a .pool) in
-    let is : c .before .before .before .take .result ≡ takenOf (taking 8 (a .held .whole .releases) (ordersOf (counting (a .opened) (a .held) (a .pool)))) =
+    let l = taken (a .held) (a .pool) in
+    let is : c .before .before .before .take .result ≡ takenOf (taking 8 (a .held .whole .releases) (ordersOf (counting (a .held) (a .pool)))) =
     c .before .before .before .take .ensures
     ∙ ap (λ (p : Pool). takenOf (taking 8 (a .held .whole .releases) (ordersOf (entriesIn p)))) (c .before .before .before .before .counting .ensures)
-    ∙ ap (λ (e : List Entry). takenOf (taking 8 (a .held .whole .releases) (ordersOf e))) (entries-of (counting (a .opened) (a .held) (a .pool))) in
+    ∙ ap (λ (e : List Entry). takenOf (taking 8 (a .held .whole .releases) (ordersOf e))) (entries-of (counting (a .held) (a .pool))) in
     let count : c .before .before .before .take .result .count ≡ length l = ap (λ (r : Taken). r .count) is in
     let list : c .before .«first-eight» .result ≡ tailed 8 noOrder l =
     c .before .«first-eight» .ensures ∙ ap (λ (r : Taken). take 8 (r .orders)) is ∙ eight-of noOrder l (taken-fine (a .opened) (a .held) (a .pool) .few) in

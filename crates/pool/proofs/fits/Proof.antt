@@ -29,7 +29,7 @@ returns-2 c =
     let a = test .before .before .args in
     let fine = sym (test .before .entries-fit .ensures) ∙ not-false _ (test .if1 .left) in
     let kept = ap (λ (p : Pool). sharesFit (entriesIn p)) (c .before .counting .ensures)
-    ∙ ap (λ (l : List Entry). sharesFit l) (entries-of (counting (a .opened) (a .held) (a .pool))) in
+    ∙ ap (λ (l : List Entry). sharesFit l) (entries-of (counting (a .held) (a .pool))) in
     rw fine (c .shares-fit .ensures ∙ kept)
 
 pub fits-spec : {M : Type 1} → statement M

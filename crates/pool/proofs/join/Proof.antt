@@ -23,7 +23,7 @@ use Rattle.pool.proofs.join.Tie as tie
 
 -- the entries that count, and all that are present
 abbrev kept : (s : tie.Start) → List Entry
-kept s = counting (s .args .opened) (s .args .held) (s .args .pool)
+kept s = counting (s .args .held) (s .args .pool)
 
 abbrev present : (s : tie.Start) → List Entry
 present s = entriesIn (s .args .pool)

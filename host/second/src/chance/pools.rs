@@ -1,5 +1,6 @@
 //! Pools by chance, each with a held chain behind which most of its orders are valid. Depots have all the room that they need, most often, and are
 //! crowded often enough to be seen.
+use self::Kind::{Old, Valid};
 use super::Chance;
 use crate::chain;
 use crate::genesis::Opening;
@@ -8,8 +9,28 @@ use crate::order::{Order, Release, Releases};
 use crate::pool::{Entry, Pool};
 use crate::samples::{self, Case, FILLER};
 
-/// How many slots ago an entry was pooled.
-const AGES: [u32; 8] = [0, 1, 2, 3, 4, 5, 6, 7];
+/// Whether an entry is to be valid where it stands, or for a display of which more is settled than it expects.
+#[derive(Clone, Copy)]
+enum Kind {
+    Valid,
+    Old,
+}
+
+/// The releases of a held chain: after all its blocks, and after the settled ones.
+struct Held {
+    whole: Releases,
+    settled: Releases,
+}
+
+impl Held {
+    /// For a chain that is bad.
+    fn unknown() -> Held {
+        Held {
+            whole: [40; 64],
+            settled: [40; 64],
+        }
+    }
+}
 
 impl Chance {
     /// The arguments of a call on a held chain and a pool, with an order and a controller that often suit them.
@@ -18,13 +39,14 @@ impl Chance {
         let Ok(opening) = Opening::new(&case.genesis, case.now) else {
             return case;
         };
-        let mut releases = [40; 64];
-        if let Ok(summary) = chain::summary(&opening, &case.held, case.held_length) {
-            releases = summary.whole.releases;
-        }
+        let summary = chain::summary(&opening, &case.held, case.held_length);
+        let mut held = summary.map_or(Held::unknown(), |summary| Held {
+            whole: summary.whole.releases,
+            settled: summary.settled.releases,
+        });
         case.depot = self.depot();
-        case.pool = self.pool(case.now.0, case.depot, &mut releases);
-        case.order = self.offered(&mut releases);
+        case.pool = self.pool(case.now.0, case.depot, &mut held);
+        case.order = self.offered(&mut held.whole);
         match self.below(90) {
             0..=2 => case.order.display = self.small(),
             3 => case.order.expected = self.above(),
@@ -49,7 +71,7 @@ impl Chance {
 
     /// A pool of entries that are up to seven slots old, and what they put on these releases. Its count or an entry is bad now and then, and the
     /// asker's depot is crowded.
-    fn pool(&mut self, now: u32, asker: u32, releases: &mut Releases) -> Pool {
+    fn pool(&mut self, now: u32, asker: u32, held: &mut Held) -> Pool {
         let mut origins = Vec::new();
         let mut depots = [0, 1, 2, 3];
         if self.once_in(5) {
@@ -66,23 +88,38 @@ impl Chance {
         let most = self.of(&[3, 12, 47]);
         for _ in 0..self.below(most) {
             let place = self.below(origins.len() + 1);
-            origins.insert(place, (self.of(&depots), self.of(&AGES)));
+            origins.insert(place, (self.of(&depots), self.of(&[Valid, Valid, Old])));
         }
         let entries: Vec<Entry> = origins
             .into_iter()
-            .map(|(depot, age)| {
-                let slot = now.saturating_sub(age).max(1);
-                samples::entry(self.offered(releases), slot).of_depot(depot)
-            })
+            .map(|(depot, kind)| self.entry(now, kind, held).of_depot(depot))
             .collect();
         self.faulty_pool(Pool::of(&entries))
     }
 
-    /// Depot and age of about as many entries as a depot has room for, of this slot or of any age.
-    fn crowd(&mut self, depot: u32) -> Vec<(u32, u32)> {
+    /// Depot and kind of about as many entries as a depot has room for, all of one kind or of both.
+    fn crowd(&mut self, depot: u32) -> Vec<(u32, Kind)> {
         let count = self.of(&[15, 16, 16, 17]);
-        let ages = self.of(&[&[0], &AGES[..]]);
-        (0..count).map(|_| (depot, self.of(ages))).collect()
+        let kinds = self.of(&[[Valid, Valid], [Valid, Old]]);
+        (0..count).map(|_| (depot, self.of(&kinds))).collect()
+    }
+
+    /// An entry of a kind, and what it puts on the releases.
+    fn entry(&mut self, now: u32, kind: Kind, held: &mut Held) -> Entry {
+        let age = self.of(&[0, 1, 2, 3, 4, 5, 6, 7]);
+        let order = match kind {
+            Valid => self.offered(&mut held.whole),
+            Old => self.overtaken(&held.settled),
+        };
+        samples::entry(order, now.saturating_sub(age).max(1))
+    }
+
+    /// An order that expects a little less than what is settled, or just that: then it counts, though blocks behind may have overtaken it.
+    fn overtaken(&mut self, settled: &Releases) -> Order {
+        let display = self.of(&[0, 1, 2, 3, 63]);
+        let expected = settled[display as usize].saturating_sub(self.of(&[0, 1, 1, 2]));
+        let new = (expected + self.of(&[0, 1, 2])).min(LARGEST);
+        samples::order(display, expected, new)
     }
 
     /// A pool with a fault now and then, within the count or behind it.

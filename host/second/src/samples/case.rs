@@ -93,7 +93,8 @@ impl Case {
     }
 
     pub fn drop_entries(&mut self, call: DropEntries) -> Result<(), Refusal> {
-        call(&self.genesis, self.now, &mut self.pool)
+        let (held, pool) = (&self.held, &mut self.pool);
+        call(&self.genesis, self.now, held, self.held_length, pool)
     }
 
     pub fn add_order(&mut self, call: AddOrder) -> Result<(), Refusal> {
@@ -178,6 +179,7 @@ pub fn dropping_faults() -> Vec<Fault> {
     vec![
         (refusal(1), |case| case.genesis.push(0)),
         (refusal(2), |case| case.now = Slot(0)),
+        (at(17, 2), |case| case.held[162] ^= 1),
         (refusal(18), |case| case.pool.count = 65),
     ]
 }

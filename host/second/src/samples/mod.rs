@@ -358,14 +358,14 @@ pub fn in_turn(entries: &[Entry]) -> Vec<Entry> {
         .collect()
 }
 
-/// An entry that counts at slot 20. No state makes it valid.
+/// An entry that counts at slot 20, with display 9 at release 0. No state makes it valid.
 pub fn counting() -> Entry {
     entry(order(9, 9, 9), 16)
 }
 
-/// An entry that no longer counts at slot 20.
+/// An entry that no longer counts, with display 2 at release 40.
 pub fn old() -> Entry {
-    entry(order(9, 9, 9), 15)
+    entry(order(2, 39, 41), 16)
 }
 
 /// Puts an entry, as one of this depot, so many times behind those of a pool.
@@ -451,12 +451,12 @@ pub fn bad_pools() -> Vec<(String, Pool)> {
     }
     bad.extend([0, 31, 63].into_iter().flat_map(bad_entries));
     for (fault, old) in [
-        ("display 64 to 1", entry(order(64, 0, 1), 1)),
         (
-            "display 0 to 34359738368",
-            entry(order(0, 0, LARGEST + 1), 1),
+            "display 2 to 34359738368",
+            entry(order(2, 39, LARGEST + 1), 1),
         ),
-        ("depot 4", entry(order(0, 0, 1), 1).of_depot(4)),
+        ("slot 21", entry(order(2, 39, 41), 21)),
+        ("depot 4", old().of_depot(4)),
     ] {
         let mut pool = full_pool();
         (pool.count, pool.entries[0]) = (1, old);

@@ -7,9 +7,16 @@ use second::pool::Pool;
 use second::Refusal;
 
 /// Drops the entries that no longer count.
-pub fn drop_entries(genesis: &[u8], now: Slot, pool: &mut Pool) -> Result<(), Refusal> {
+pub fn drop_entries(
+    genesis: &[u8],
+    now: Slot,
+    held: &[u8],
+    held_length: usize,
+    pool: &mut Pool,
+) -> Result<(), Refusal> {
+    let held = Held::stored(held, held_length);
     let mut lent = lent_pool(pool);
-    let dropped = ledger::drop_entries(genesis, lent_slot(now), &mut lent);
+    let dropped = held.drop_entries(genesis, lent_slot(now), &mut lent);
     *pool = across::pool(&lent);
     dropped.map_err(across::refusal)
 }
@@ -99,9 +106,7 @@ mod tests {
                 "add" => samples::refuses_old_crowds(call.make),
                 _ => samples::takes_old_crowds(call.make),
             }
-            if call.refusals.contains(&17) {
-                samples::refuses_bad_held(call.make);
-            }
+            samples::refuses_bad_held(call.make);
         }
     }
 

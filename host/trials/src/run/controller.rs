@@ -48,7 +48,8 @@ impl Controller {
 
     /// Clears its pool of what no longer counts.
     pub fn clear(&mut self, station: &Station, calls: &Calls, now: Slot) -> Result<(), Refusal> {
-        (calls.drop_entries)(&station.bytes, now, &mut self.pool)
+        let genesis = &station.bytes;
+        (calls.drop_entries)(genesis, now, &self.held, self.length, &mut self.pool)
     }
 
     /// Is offered an order by a depot, and adds it.

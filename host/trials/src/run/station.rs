@@ -16,10 +16,9 @@ pub struct Station {
 }
 
 impl Station {
-    /// Orders stay pooled for six slots.
     pub fn new(n: u32, t: u32, faulty: Vec<u32>) -> Station {
         assert!(faulty.len() <= t as usize);
-        let genesis = samples::genesis(n, t, 6);
+        let genesis = samples::genesis(n, t, 64);
         Station {
             bytes: genesis.bytes(),
             genesis,

@@ -4,7 +4,7 @@ use second::issue;
 use second::number::LARGEST;
 use second::order::{Order, Release, Slot};
 use second::pool::{Entry, Pool};
-use second::samples::{self, entry, in_turn, order, BLOCK, FILLER, LONG_START};
+use second::samples::{self, entry, in_turn, old, order, BLOCK, FILLER, LONG_START};
 use second::{refusal, sha256, Refusal};
 
 use crate::case::{bytes_text, case, refused, told, Case, Field, Op, Section};
@@ -114,7 +114,7 @@ fn all_kept(name: &str, given: &Arguments, refusal: Refusal) -> [Case; 3] {
     CALLS.map(|call| kept(call, name, given, refusal))
 }
 
-/// At slot 20, controller 2's turn, behind two blocks without orders; u is 5, display 2 at release 40, the others at 0.
+/// At slot 20, controller 2's turn, behind two blocks without orders, which are settled: display 2 is at release 40, the others at 0.
 fn pooled(entries: &[Entry]) -> Arguments {
     let mut given = Arguments {
         pool: Pool::of(entries),
@@ -134,7 +134,7 @@ fn taken(name: &str, entries: &[Entry], orders: &[Order]) -> [Case; 3] {
 
 fn none_taken() -> Vec<Case> {
     let invalid = entry(order(2, 41, 42), 20);
-    let old = entry(order(2, 40, 41), 15);
+    let old = old();
     let mut first = pooled(&[]);
     (first.held, first.held_length) = (vec![FILLER; 170], 0);
     let genesis = first.genesis.clone();
@@ -154,8 +154,8 @@ fn none_taken() -> Vec<Case> {
 fn some_taken() -> Vec<Case> {
     let mixed = [
         entry(order(2, 41, 42), 20),
-        entry(order(2, 40, 41), 15),
-        entry(order(2, 40, 43), 16),
+        entry(order(2, 39, 41), 15),
+        entry(order(2, 40, 43), 1),
         entry(order(7, 0, 5), 18),
         entry(order(2, 43, 43), 18),
         entry(order(2, 43, 44), 17),

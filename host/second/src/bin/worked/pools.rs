@@ -1,4 +1,5 @@
 //! Entries dropped from a pool, and orders added to it.
+use second::genesis::Genesis;
 use second::number::LARGEST;
 use second::order::{Order, Release, Slot};
 use second::pool::{self, Entry, Pool, ROOM};
@@ -8,7 +9,7 @@ use second::{refusal, Refusal};
 use crate::case::{boxed_case, refused, Case, Field, Op, Section};
 use crate::faults::{at, bad_blocks, bad_openings, several, Arguments};
 
-/// drop GENESIS NOW COUNT DISPLAY EXPECTED NEW SLOT DEPOT ..
+/// drop GENESIS NOW HELD LENGTH COUNT DISPLAY EXPECTED NEW SLOT DEPOT ..
 pub struct Drop(pub Arguments);
 
 impl Op for Drop {
@@ -18,7 +19,12 @@ impl Op for Drop {
 
     fn fields(&self) -> Vec<Field> {
         let given = &self.0;
-        let mut fields = vec![given.genesis[..].into(), given.now.0.into()];
+        let mut fields = vec![
+            given.genesis[..].into(),
+            given.now.0.into(),
+            given.held[..].into(),
+            given.held_length.into(),
+        ];
         fields.extend(pool_fields(&given.pool));
         fields
     }
@@ -140,7 +146,7 @@ fn kept(name: impl Into<String>, given: Arguments, refusal: Refusal) -> Case {
 /// The first release that 32 bits do not hold.
 const ABOVE: Release = 1 << 32;
 
-/// Offered by depot 0 at slot 20 to one who holds no blocks; u is 5, display 2 at release 40, the others at 0.
+/// Offered by depot 0 at slot 20 to one who holds no blocks: display 2 is settled at release 40, the others at 0.
 fn at_20(pool: Pool, order: Order) -> Arguments {
     Arguments {
         held: vec![],
@@ -162,12 +168,12 @@ fn refuses(name: &str, entries: &[Entry], new: Order, number: u32) -> Case {
     kept(name, at_20(Pool::of(entries), new), refusal(number))
 }
 
-/// Four entries for display 2, of which those from slot 16 on count; and behind them what is past a count.
-fn mixed_ages() -> ([Entry; 4], Pool) {
+/// Four entries for display 2, of which those that expect 40 or more count; and behind them what is past a count.
+fn mixed() -> ([Entry; 4], Pool) {
     let entries = [
-        entry(order(2, 40, 41), 15),
-        entry(order(2, 40, 42), 16).of_depot(1),
-        entry(order(2, 42, 43), 1).of_depot(2),
+        entry(order(2, 39, 41), 20),
+        entry(order(2, 40, 42), 1).of_depot(1),
+        entry(order(2, 0, 43), 16).of_depot(2),
         entry(order(2, 42, 44), 20).of_depot(3),
     ];
     let mut spare = Pool::of(&entries);
@@ -178,14 +184,18 @@ fn mixed_ages() -> ([Entry; 4], Pool) {
 /// "One call drops the entries that no longer count", and leaves "zeros past the count".
 fn dropped() -> Vec<Case> {
     let any = order(0, 0, 1);
-    let (entries, spare) = mixed_ages();
-    let young = [entries[1], entries[3]];
+    let (entries, spare) = mixed();
+    let counting_ones = [entries[1], entries[3]];
     let drop = |name: &str, pool, after: &[Entry]| leaves(DROP, name, at_20(pool, any), after);
     let all = in_turn(&[counting(); ROOM]);
     vec![
         drop("a pool of no entries", Pool::of(&[]), &[]),
-        drop("slots 15, 16, 1, 20", Pool::of(&entries), &young),
-        drop("the same, and entries past the count", spare, &young),
+        drop("39, 40, 0, 42 expected", Pool::of(&entries), &counting_ones),
+        drop(
+            "the same, and entries past the count",
+            spare,
+            &counting_ones,
+        ),
         drop("64 entries, all count", Pool::of(&all), &all),
         drop(
             "64 entries of one depot, none counts",
@@ -195,48 +205,56 @@ fn dropped() -> Vec<Case> {
     ]
 }
 
-/// "An entry counts while now minus its slot is less than u."
-fn ages() -> Vec<Case> {
-    let entry = entry(order(0, 0, 1), 7);
-    let ages = [
-        (5, 7, true),
-        (5, 11, true),
-        (5, 12, false),
-        (1, 7, true),
-        (1, 8, false),
-        (64, 70, true),
-        (64, 71, false),
-    ];
-    let mut cases: Vec<Case> = ages
-        .into_iter()
-        .map(|(u, now, counts)| {
-            let given = Arguments {
-                genesis: samples::genesis(6, 1, u).bytes(),
-                now: Slot(now),
-                ..at_20(Pool::of(&[entry]), order(1, 0, 1))
-            };
-            let name = format!("slot 7, u = {u}, now {now}");
-            leaves(DROP, name, given, &[entry][usize::from(!counts)..])
-        })
-        .collect();
+/// Entries of slot 1 that expect display 2 at 40 to 46, over the sample chain of a table: its stamps are 1, 3, 4, 6 and 9, and each block takes
+/// display 2 one release on, from 40. So many blocks are settled.
+fn over_the_chain(name: String, genesis: Genesis, now: u32, settled: usize) -> Case {
+    let entries: Vec<Entry> = (40..47).map(|r| entry(order(2, r, r + 1), 1)).collect();
+    let genesis = genesis.bytes();
+    let held = samples::good_chain(&genesis);
+    let given = Arguments {
+        now: Slot(now),
+        held_length: held.len(),
+        held,
+        genesis,
+        ..at_20(Pool::of(&entries), order(0, 0, 1))
+    };
+    leaves(DROP, name, given, &entries[settled..])
+}
+
+/// "An entry now stops counting when its display's settled release is above the release that it expects, and not before", and "u .. has no effect".
+fn settled() -> Vec<Case> {
+    let mut cases = Vec::new();
+    for (now, settled) in [(9, 3), (10, 3), (11, 4), (13, 4), (14, 5), (256, 5)] {
+        let six = samples::genesis(6, 1, 5);
+        cases.push(over_the_chain(format!("now {now}"), six, now, settled));
+    }
+    for (now, settled) in [(11, 0), (12, 1)] {
+        let name = format!("n = 4, t = 1, now {now}");
+        let four = samples::genesis(4, 1, 5);
+        cases.push(over_the_chain(name, four, now, settled));
+    }
+    for u in [1, 64] {
+        let six = samples::genesis(6, 1, u);
+        cases.push(over_the_chain(format!("u = {u}, now 256"), six, 256, 5));
+    }
     let back = Arguments {
         now: Slot(6),
-        ..at_20(Pool::of(&[entry]), order(1, 0, 1))
+        ..at_20(Pool::of(&[entry(order(0, 0, 1), 7)]), order(1, 0, 1))
     };
     let name = "slot 7, the clock set back to 6";
     cases.push(keeps(DROP, name, back, refusal(18)));
     cases
 }
 
-/// "The other only adds an order": entries that no longer count stay in their places, and are not applied.
+/// "The other only adds an order": entries that no longer count stay in their places, and take no effect.
 fn only_added() -> Vec<Case> {
-    let (entries, spare) = mixed_ages();
+    let (entries, spare) = mixed();
     let new = order(2, 44, 45);
     let after = [&entries[..], &[entry(new, 20)]].concat();
     let only_old = order(2, 41, 42);
     vec![
         behind("a pool of no entries", &[], order(2, 40, 41)),
-        behind("slots 15, 16, 1, 20", &entries, new),
+        behind("39, 40, 0, 42 expected", &entries, new),
         added(
             "the same, and entries past the count",
             at_20(spare.clone(), new),
@@ -248,7 +266,7 @@ fn only_added() -> Vec<Case> {
             refusal(14),
         ),
         refuses(
-            "valid only after an entry that no longer counts",
+            "valid only if an entry that no longer counts took effect",
             &[entries[0]],
             only_old,
             14,
@@ -337,7 +355,7 @@ fn no_room_for(name: &str, depot: u32, entries: &[Entry], order: Order, number: 
     kept(name, given, refusal(number))
 }
 
-/// 02: "20 .. after 14", "its full-pool and depot checks are over all entries present". Entries from slot 16 on count.
+/// 02: "20 .. after 14", "its full-pool and depot checks are over all entries present".
 fn room() -> Vec<Case> {
     let new = order(0, 0, 1);
     let full = [counting(); 16];
@@ -455,19 +473,12 @@ fn all_kept(make: Make, faults: Vec<(String, Arguments, Refusal)>) -> Vec<Case> 
         .collect()
 }
 
-fn bad_before_dropping() -> Vec<(String, Arguments, Refusal)> {
-    bad_openings()
-        .into_iter()
-        .map(|(fault, given, number)| (fault, given, refusal(number)))
-        .collect()
-}
-
 fn dropping() -> Vec<Section> {
     let section = |title, cases| Section { title, cases };
     vec![
         section("Drop: entries that no longer count are gone", dropped()),
-        section("Drop: how long an entry counts", ages()),
-        section("Drop: 1 and 2", all_kept(DROP, bad_before_dropping())),
+        section("Drop: what is settled decides what counts", settled()),
+        section("Drop: 1, 2 and 17", all_kept(DROP, bad_before_the_pool())),
         section(
             "Drop: the earliest of several faults",
             all_kept(DROP, several(&samples::dropping_faults())),
