@@ -5,18 +5,19 @@ use mathlib.Core.List.{List}
 use Prim.Native.Nat.{ℕ, _+_, _*_, _≤_}
 use lib.Dec.{leb}
 use lib.ListN.{length}
-use borrow.Author.Tests.{leb-true, eqb-true, le-leb}
+use borrow.Author.Tests.{leb-true, eqb-true}
 use Rattle.laws.specs.Told.{gives}
 use Rattle.laws.specs.Every.{both, within}
 use Rattle.laws.specs.Repeated.{repeated}
 use Rattle.laws.proofs.Told.{gives-same, then-gives, unless-gives}
 use Rattle.laws.specs.Depth.{depthFor}
-use Rattle.laws.proofs.Every.{both-true, within-true, within-here}
+use Rattle.laws.proofs.Every.{both-true, within-true}
 use Rattle.laws.proofs.Repeated.{repeated-length}
 use Rattle.number.specs.Number.{numberAt}
 use Rattle.genesis.specs.Genesis.{headAt, enough, rules, ended, genesisOf, depth}
 use Rattle.genesis.specs.declared.Genesis.{Genesis}
 use Rattle.genesis.proofs.Faults.{no-fault}
+use Rattle.genesis.proofs.Depths.{many-enough}
 
 pub record Sound (s : List ℕ) (g : Genesis) : Type 0 where
   pub some : 1 ≤ g .n
@@ -52,4 +53,4 @@ sound s g e =
 pub depth-is : (s : List ℕ) (g : Genesis) → genesisOf s ≡ gives g → depth g ≡ depthFor (g .n) (g .t)
 depth-is s g e =
     let fine = sound s g e in
-    rw (within-here 1 31 (g .n) (fine .some) (fine .few), le-leb (3 * g .t + 1) (g .n) (fine .faults))
+    many-enough (g .n) (g .t) (fine .some) (fine .few) (fine .faults)

@@ -58,9 +58,12 @@ turn g slot = pick (ltb 0 (g .n)) ((slot - 1) % g .n + 1) 0
 abbrev pub clockFits : Genesis → ℕ → Bool
 clockFits g clock = within 1 256 clock
 
--- a block is settled when it lies more than so many slots back; 0 for numbers that no genesis gives
+-- 02, e and f: a block is settled when it lies more than so many slots back; 0 for numbers that no genesis gives
+abbrev pub depthOf : (n t : ℕ) → ℕ
+depthOf n t = pick (enough n t) (depthFor n t) 0
+
 abbrev pub depth : Genesis → ℕ
-depth g = pick (enough (g .n) (g .t)) (depthFor (g .n) (g .t)) 0
+depth g = depthOf (g .n) (g .t)
 
 -- the place of a controller's key in the bytes: 1, then 12
 abbrev pub keyAt : List ℕ → ℕ → Told ℕ

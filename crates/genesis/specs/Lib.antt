@@ -1,2 +1,3 @@
 pub mod Genesis
 pub mod Answers
+pub mod Depths

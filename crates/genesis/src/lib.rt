@@ -1,5 +1,7 @@
 // The genesis table (01, "Genesis"): read as a whole or refused as a whole, and the two rules that hang on it, whose turn a slot is and how deep
 // a block must lie to be settled.
+mod sheet;
+
 use number::Number;
 use number::Reading;
 use order::DISPLAYS;
@@ -209,13 +211,7 @@ pub fn clock_fits(table: Genesis, clock: Slot) -> bool
 pub fn depth(table: Genesis) -> u64
     ensures { λ r. ⌜ r ≡ spec.depth table ⌝ }
 {
-    let n = table.n as Number;
-    let t = table.t as Number;
-    if !enough(n, t) {
-        return 0;
-    }
-    let times = 2 * t / (n - 3 * t);
-    3 * t * (times + 1) + 1
+    sheet::depth_of(table.n, table.t) as u64
 }
 
 // Where a controller's key is.
