@@ -32,6 +32,7 @@
  *   it is the controller's turn.
  * - Send an issued chain, the whole of it, so that every controller is given it in the next slot.
  * - Verify a stored chain's signatures again at boot: no link covers the last block, so a call need not see damage in it.
+ * - In a bootloader: hand ledger_check_manifest the release that a report has settled, and a key that is built in; start the image as it was checked.
  *
  * What to do at 17 and 18. A call meets them again with the same arguments, for ever. At 17 put the length to 0 and adopt the next whole chain that
  * is delivered. At 18 empty the pool, all zeros, and offer its orders again. (If the clock was wrong, set it right first.) A controller that met one
@@ -53,7 +54,7 @@ extern "C" {
 #endif
 
 /* The interface's version: it changes with every declaration of this header that changes. */
-#define LEDGER_VERSION 6
+#define LEDGER_VERSION 7
 
 /* Limits. */
 #define LEDGER_DISPLAYS 64           /* displays are 0 to 63 */
@@ -82,6 +83,10 @@ extern "C" {
 #define LEDGER_BLOCK_BYTES 251       /* and the most */
 #define LEDGER_CHAIN_BYTES 64256     /* the most bytes of a chain */
 #define LEDGER_MESSAGE_BYTES 65536   /* the most bytes that are digested */
+#define LEDGER_IMAGE_BYTES 65536     /* the most bytes of an image that a manifest is for */
+#define LEDGER_MANIFEST_KEY_BYTES 56 /* the bytes of the key that manifests are signed under */
+#define LEDGER_MANIFEST_SIGNATURE_BYTES 1292 /* and of a manifest's signature */
+#define LEDGER_MANIFEST_BYTES 1329   /* the most bytes of a manifest: a number, a digest and a signature */
 #define LEDGER_GOOD_VERDICT 3        /* both signatures verify under the key whose turn the slot is */
 
 /* The most that a call takes of the stack, in bytes, on every path: its frames, its arguments by value and its answer. Measured by host/c/stack.c and
@@ -97,22 +102,23 @@ extern "C" {
 #define LEDGER_STACK_WRITE_BLOCK 1792
 #define LEDGER_STACK_SLOT_TEXT 256
 #define LEDGER_STACK_WALK_STEP 3072
-#define LEDGER_STACK_CHECK 7936
-#define LEDGER_STACK_CHOOSE 12544
-#define LEDGER_STACK_ADOPT 12800
-#define LEDGER_STACK_DROP_ENTRIES 23808
-#define LEDGER_STACK_ADD_ORDER 27136
-#define LEDGER_STACK_DRAFT 23040
-#define LEDGER_STACK_BLOCK_TEXT 23040
-#define LEDGER_STACK_APPEND 23296
-#define LEDGER_STACK_REPORT 12544
+#define LEDGER_STACK_CHECK 8960
+#define LEDGER_STACK_CHOOSE 13824
+#define LEDGER_STACK_ADOPT 13824
+#define LEDGER_STACK_DROP_ENTRIES 25088
+#define LEDGER_STACK_ADD_ORDER 28160
+#define LEDGER_STACK_DRAFT 24064
+#define LEDGER_STACK_BLOCK_TEXT 24064
+#define LEDGER_STACK_APPEND 24576
+#define LEDGER_STACK_REPORT 13824
+#define LEDGER_STACK_CHECK_MANIFEST 2048
 
 /* Refusal numbers. */
 enum ledger_refusal {
     LEDGER_NO_REFUSAL = 0,         /* the call has done what it says */
     LEDGER_BAD_GENESIS = 1,        /* genesis bytes break a rule */
     LEDGER_BAD_CLOCK = 2,          /* now is not 1 to 256 */
-    LEDGER_CUT = 3,                /* bytes end inside a block or number */
+    LEDGER_CUT = 3,                /* bytes end inside a block or number, or inside a manifest's digest */
     LEDGER_BAD_NUMBER = 4,         /* a number is not shortest, or too large */
     LEDGER_OUT_OF_RANGE = 5,       /* order count, display or slot out of its range; a release above the largest in an offer or a block to be
                                       written; a depot above 3 in an offer */
@@ -126,13 +132,17 @@ enum ledger_refusal {
     LEDGER_POOL_FULL = 13,         /* the pool has 64 entries. It can't occur: each of the four depots has room for 16 of them */
     LEDGER_BAD_OFFER = 14,         /* new order not valid where it would stand */
     LEDGER_SHORT_BUFFER = 15,      /* lent output too short */
-    LEDGER_TOO_LONG = 16,          /* delivered chain over 64,256 bytes, or a slice to digest over 65,536 */
+    LEDGER_TOO_LONG = 16,          /* delivered chain over 64,256 bytes, or a slice to digest, a manifest's image too, over 65,536 */
     LEDGER_BAD_HELD = 17,          /* held chain bad: longer than its buffer or than 64,256 bytes (place 0), or a block fails 3, 4, 5, 6, 9 or 10,
                                       or its stamp is above now (the block's place). It needs no verdicts, and its last stamp may equal now */
     LEDGER_BAD_POOL = 18,          /* pool bad: count above 64, or within the count an entry with a display above 63, a release above the largest,
                                       slot 0, a slot above now or a depot above 3, or more than 16 counting entries of one depot; of
                                       ledger_add_order more than 16, counting or not */
-    LEDGER_DEPOT_FULL = 20         /* the depot has 16 entries, counting or not */
+    LEDGER_DEPOT_FULL = 20,        /* the depot has 16 entries, counting or not */
+    LEDGER_BAD_FORM = 23,          /* a manifest's signature or its key has a wrong length or a wrong type code */
+    LEDGER_BAD_SIGNATURE = 24,     /* a manifest's signature does not verify under the key */
+    LEDGER_WRONG_IMAGE = 25,       /* the image is not the one that the manifest is for: its digest is another */
+    LEDGER_WRONG_RELEASE = 26      /* the manifest's release is not the settled one */
 };
 
 /* A slot, or a block's stamp. Apart from a number of blocks, so that neither can be taken for the other. */
@@ -286,6 +296,11 @@ typedef struct {
     uint64_t releases[LEDGER_DISPLAYS]; /* after the settled blocks */
 } ledger_report_answer;
 
+typedef struct {
+    uint32_t refusal; /* 0: this image may be started */
+    ledger_block_count place;
+} ledger_manifest_answer;
+
 /* Reads the number at a place: 3, 4. */
 ledger_number_answer ledger_read_number(const uint8_t *bytes, size_t bytes_length, size_t at);
 
@@ -376,6 +391,13 @@ ledger_issue_answer ledger_append(const uint8_t *genesis, size_t genesis_length,
 ledger_report_answer ledger_report(const uint8_t *genesis, size_t genesis_length, ledger_slot clock, const uint8_t *held,
                                    size_t held_room, size_t length);
 
+/* Checks a boot manifest before a display starts a release: 16, 3 and 4 in byte order, 23, 24, 25, 26, all at place 0. A manifest is the release as a
+   number, the SHA-256 of the image, and an LMS signature (RFC 8554) over the bytes before it, of the types LMS_SHA256_M32_H5 and LMOTS_SHA256_N32_W8.
+   It is accepted exactly if the signature verifies under the key, the digest is the image's, and the release is `settled_release`: what a report
+   says of the display (`releases`). Nothing is written. */
+ledger_manifest_answer ledger_check_manifest(const uint8_t *image, size_t image_length, const uint8_t *manifest, size_t manifest_length,
+                                             const uint8_t *key, size_t key_length, uint64_t settled_release);
+
 /* The layout that the archive was compiled with: a host compiled with another does not compile. */
 #if defined(__cplusplus) && __cplusplus >= 201103L
 #define LEDGER_LAYOUT(name, fact) static_assert(fact, #name)
@@ -427,6 +449,7 @@ LEDGER_AT(ledger_issue_answer, length, 8);
 LEDGER_SIZE(ledger_report_answer, 536); LEDGER_AT(ledger_report_answer, refusal, 0); LEDGER_AT(ledger_report_answer, place, 4);
 LEDGER_AT(ledger_report_answer, held, 8); LEDGER_AT(ledger_report_answer, settled, 12); LEDGER_AT(ledger_report_answer, settled_length, 16);
 LEDGER_AT(ledger_report_answer, releases, 24);
+LEDGER_SIZE(ledger_manifest_answer, 8); LEDGER_AT(ledger_manifest_answer, refusal, 0); LEDGER_AT(ledger_manifest_answer, place, 4);
 #undef LEDGER_AT
 #undef LEDGER_SIZE
 #undef LEDGER_LAYOUT

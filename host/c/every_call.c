@@ -1,6 +1,7 @@
 /* Each call of include/ledger.h from C, with arguments and answers that can be told apart: nothing else ties the header to the archive.
    It prints the line of the first answer that is not as expected, and then its exit status is 1. */
 #include "facts.h"
+#include "manifests.h"
 #include "sample.h"
 
 #define FILLER 0xEE
@@ -348,6 +349,35 @@ static int nothing_lent(void) {
     return 0;
 }
 
+/* Image, manifest and key in this order, and the release as 64 bits. The manifests are from elsewhere (manifests.h). */
+static int manifests(void) {
+    static const uint8_t longer[LEDGER_IMAGE_BYTES + 1];
+    uint8_t changed[LEDGER_MANIFEST_BYTES];
+    const size_t key = LEDGER_MANIFEST_KEY_BYTES, length = 2 + LEDGER_DIGEST_BYTES + LEDGER_MANIFEST_SIGNATURE_BYTES;
+    EXPECT(sizeof manifest_key == key && sizeof manifest_300 == length && length <= LEDGER_MANIFEST_BYTES);
+#define CHECKED(image, manifest, length, key, release) ledger_check_manifest(image, sizeof image, manifest, length, manifest_key, key, release)
+    ledger_manifest_answer checked = CHECKED(image_300, manifest_300, length, key, 300);
+    EXPECT(checked.refusal == 0 && checked.place.number == 0);
+    EXPECT(CHECKED(image_300, manifest_300, length, key, 301).refusal == LEDGER_WRONG_RELEASE);
+    EXPECT(CHECKED(image_300, manifest_300, length, key, 300 + (UINT64_C(1) << 35)).refusal == LEDGER_WRONG_RELEASE);
+    EXPECT(CHECKED(image_8, manifest_300, length, key, 301).refusal == LEDGER_WRONG_IMAGE);
+    memcpy(changed, manifest_300, length);
+    changed[length - 1] ^= 1;
+    EXPECT(CHECKED(image_8, changed, length, key, 301).refusal == LEDGER_BAD_SIGNATURE);
+    EXPECT(CHECKED(image_8, changed, length - 1, key, 301).refusal == LEDGER_BAD_FORM);
+    EXPECT(CHECKED(image_8, changed, length, key - 1, 301).refusal == LEDGER_BAD_FORM);
+    EXPECT(CHECKED(image_8, changed, 33, key - 1, 301).refusal == LEDGER_CUT);
+    changed[1] = 0;
+    EXPECT(CHECKED(image_8, changed, length, key - 1, 301).refusal == LEDGER_BAD_NUMBER);
+    checked = CHECKED(longer, changed, length, key - 1, 301);
+    EXPECT(checked.refusal == LEDGER_TOO_LONG && checked.place.number == 0);
+#undef CHECKED
+    EXPECT(ledger_check_manifest(NULL, 0, NULL, 0, NULL, 0, 0).refusal == LEDGER_CUT);
+    EXPECT(ledger_check_manifest(NULL, 0, manifest_8, sizeof manifest_8, NULL, 0, 8).refusal == LEDGER_BAD_FORM);
+    EXPECT(ledger_check_manifest(NULL, 0, manifest_8, sizeof manifest_8, manifest_key, key, 8).refusal == LEDGER_WRONG_IMAGE);
+    return 0;
+}
+
 /* And those of the calls on delivered chains. */
 static int nothing_delivered(const struct chain *c) {
     const ledger_slot now = {20};
@@ -405,6 +435,6 @@ int main(void) {
     const int lines[] = {numbers(),        large_numbers(), digests(),            tables(),        blocks(),
                          large_releases(), a_large_start(), checks(&chain),       adopts(&chain),  issues(&chain),
                          nothing_lent(),   reports(&chain), large_orders(&chain), nothing_delivered(&chain),
-                         nothing_held(&chain), depots(&chain), drops(&chain)};
+                         nothing_held(&chain), depots(&chain), drops(&chain), manifests()};
     return exit_status("every_call.c", lines, sizeof lines / sizeof *lines);
 }

@@ -352,7 +352,7 @@ static int an_issued_block(void) {
     return 0;
 }
 
-/* The names are the header's, and each number has words of its own. */
+/* The names are the header's, and each number has words of its own. 19, 21 and 22 are no refusals of this version. */
 static int names(void) {
 #define NAMED(name) {LEDGER_##name, #name}
     const struct {
@@ -362,9 +362,10 @@ static int names(void) {
         NAMED(NO_REFUSAL), NAMED(BAD_GENESIS), NAMED(BAD_CLOCK), NAMED(CUT), NAMED(BAD_NUMBER), NAMED(OUT_OF_RANGE), NAMED(BAD_STAMP),
         NAMED(LATE_STAMP), NAMED(BAD_VERDICT), NAMED(BAD_LINK), NAMED(BAD_ORDER), NAMED(NOT_LONGER), NAMED(WRONG_CONTROLLER),
         NAMED(POOL_FULL), NAMED(BAD_OFFER), NAMED(SHORT_BUFFER), NAMED(TOO_LONG), NAMED(BAD_HELD), NAMED(BAD_POOL), NAMED(DEPOT_FULL),
+        NAMED(BAD_FORM), NAMED(BAD_SIGNATURE), NAMED(WRONG_IMAGE), NAMED(WRONG_RELEASE),
     };
 #undef NAMED
-    const uint32_t none[] = {LEDGER_BAD_POOL + 1, LEDGER_DEPOT_FULL + 1, UINT32_MAX};
+    const uint32_t none[] = {LEDGER_BAD_POOL + 1, LEDGER_DEPOT_FULL + 1, LEDGER_BAD_FORM - 1, LEDGER_WRONG_RELEASE + 1, UINT32_MAX};
     for (uint32_t i = 0; i < sizeof all / sizeof *all; i++) {
         EXPECT(strcmp(ledger_refusal_name(all[i].number), all[i].name) == 0);
         for (uint32_t j = 0; j < i; j++)

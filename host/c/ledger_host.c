@@ -186,7 +186,7 @@ static const struct {
     {"NO_REFUSAL", "no refusal"},
     {"BAD_GENESIS", "the genesis table breaks a rule"},
     {"BAD_CLOCK", "the slot is not 1 to 256"},
-    {"CUT", "a block or a number is cut"},
+    {"CUT", "a block, a number or a manifest is cut"},
     {"BAD_NUMBER", "a number is badly written: not in its shortest form, or too large"},
     {"OUT_OF_RANGE", "a count, a display, a depot, a release or a slot is out of its range"},
     {"BAD_STAMP", "a block's slot is not above the one before it; to be issued: the held chain already has a block of this slot"},
@@ -203,8 +203,13 @@ static const struct {
     {"BAD_HELD", "the held chain is bad: put its length to 0 and take the next whole chain"},
     {"BAD_POOL", "the order pool is bad: empty it"},
     [LEDGER_DEPOT_FULL] = {"DEPOT_FULL", "the depot has 16 entries in the order pool"},
+    [LEDGER_BAD_FORM] = {"BAD_FORM", "a manifest's signature, or the key, has a wrong length or is of another type"},
+    [LEDGER_BAD_SIGNATURE] = {"BAD_SIGNATURE", "a manifest's signature does not verify under the key"},
+    [LEDGER_WRONG_IMAGE] = {"WRONG_IMAGE", "the image is not the one that the manifest is for"},
+    [LEDGER_WRONG_RELEASE] = {"WRONG_RELEASE", "the manifest's release is not the settled one"},
 };
 
+/* Some numbers below the last are no refusal of this version: they have no name. */
 static bool known(uint32_t refusal) { return refusal < sizeof refusals / sizeof *refusals && refusals[refusal].name != NULL; }
 
 const char *ledger_refusal_name(uint32_t refusal) { return known(refusal) ? refusals[refusal].name : "UNKNOWN"; }

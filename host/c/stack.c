@@ -2,6 +2,7 @@
    docs/BENCHMARKS.md: the frames, the arguments by value and the answer. Each call is made on good arguments, on a stack that was painted before; the
    lowest byte that is no longer paint tells. The exit status is 1 if a call takes more than its header says. */
 #define _XOPEN_SOURCE 600
+#include "manifests.h"
 #include "sample.h"
 
 #include <pthread.h>
@@ -74,6 +75,9 @@ static void draft(void) { refusal = ledger_draft(G, now, HELD, pool, 2, signatur
 static void block_text(void) { refusal = ledger_block_text(G, now, HELD, pool, 2, signature, out, sizeof out).refusal; }
 static void append(void) { refusal = ledger_append(G, now, HELD, pool, 2, signature, signature).refusal; }
 static void report(void) { refusal = ledger_report(G, now, HELD).refusal; }
+static void check_manifest(void) {
+    refusal = ledger_check_manifest(image_300, sizeof image_300, manifest_300, sizeof manifest_300, manifest_key, sizeof manifest_key, 300).refusal;
+}
 static void adopt_verified(void) {
     refusal = ledger_adopt_verified(G, now, held, sizeof held, sample.first, sample.bytes, sample.length, verify, NULL).refusal;
 }
@@ -97,7 +101,7 @@ static const struct call calls[] = {
     CALL(find_key, FIND_KEY), CALL(turn, TURN), CALL(depth, DEPTH), CALL(read_block, READ_BLOCK), CALL(write_block, WRITE_BLOCK),
     CALL(slot_text, SLOT_TEXT), CALL(walk_step, WALK_STEP), CALL(check, CHECK), CALL(choose, CHOOSE), CALL(adopt, ADOPT),
     CALL(drop_entries, DROP_ENTRIES), CALL(add_order, ADD_ORDER), CALL(draft, DRAFT), CALL(block_text, BLOCK_TEXT), CALL(append, APPEND),
-    CALL(report, REPORT),
+    CALL(report, REPORT), CALL(check_manifest, CHECK_MANIFEST),
     CALL(verdicts, VERDICTS), CALL(adopt_verified, ADOPT_VERIFIED), CALL(chain_verifies, CHAIN_VERIFIES), CALL(issue, ISSUE),
 };
 

@@ -1,4 +1,4 @@
-//! With the feature `benchmarks`: the plain C digest, compiled by LEDGER_CC or gcc, at two levels of optimisation.
+//! With the feature `benchmarks`: the digest and the check of a manifest in plain C, compiled by LEDGER_CC or gcc, at two levels of optimisation.
 use std::path::{Path, PathBuf};
 use std::process::Command;
 use std::{env, fs};
@@ -6,29 +6,48 @@ use std::{env, fs};
 fn main() {
     println!("cargo:rerun-if-changed=build.rs");
     if env::var_os("CARGO_FEATURE_BENCHMARKS").is_some() {
-        compile_plain_digest("O2");
-        compile_plain_digest("O3");
+        compile_plain("O2");
+        compile_plain("O3");
     }
 }
 
-/// Has the digest compiled at this level of optimisation, under a name of its own.
-fn compile_plain_digest(level: &str) {
-    let file = package().join("../c/plain_sha256.c");
-    println!("cargo:rerun-if-changed={}", file.display());
+/// Has both compiled at this level of optimisation, under names of their own.
+fn compile_plain(level: &str) {
     let out = env::var("OUT_DIR").unwrap();
+    let digest = format!("plain_sha256_{level}");
+    let objects = [
+        compile("plain_sha256", level, &[("NAME", &digest)]),
+        compile(
+            "plain_lms",
+            level,
+            &[("NAME", &format!("plain_lms_{level}")), ("SHA256", &digest)],
+        ),
+    ];
     let name = format!("plain_{level}");
-    let object = format!("{out}/{name}.o");
+    run(Command::new("ar")
+        .args(["rcs", &format!("{out}/lib{name}.a")])
+        .args(objects));
+    link(&name, Path::new(&out));
+}
+
+/// Has a file of `host/c` compiled with these names, and gives the object.
+fn compile(file: &str, level: &str, names: &[(&str, &str)]) -> String {
+    let source = package().join("../c").join(file).with_extension("c");
+    println!("cargo:rerun-if-changed={}", source.display());
     println!("cargo:rerun-if-env-changed=LEDGER_CC");
+    let object = format!("{}/{file}_{level}.o", env::var("OUT_DIR").unwrap());
+    let defines = names
+        .iter()
+        .map(|(name, value)| format!("-D{name}={value}"));
     run(
         Command::new(env::var_os("LEDGER_CC").unwrap_or("gcc".into()))
             .args(["-Wall", "-Wextra", "-Werror", "-c"])
             .arg(format!("-{level}"))
-            .arg(format!("-DNAME=plain_sha256_{level}"))
-            .arg(file)
+            .args(defines)
+            .arg(source)
             .args(["-o", &object]),
     );
-    run(Command::new("ar").args(["rcs", &format!("{out}/lib{name}.a"), &object]));
-    link(&name, Path::new(&out));
+    object
 }
 
 fn package() -> PathBuf {

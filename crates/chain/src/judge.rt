@@ -18,8 +18,6 @@ ghost use Prim.Native.Nat.{_+_, _<_, _≤_};
 ghost use lib.Dec.{eqb};
 ghost use lib.ListN.{length, getD};
 ghost use Rattle.laws.specs.Told.{refuses, found, then};
-ghost use Rattle.laws.specs.Every.{same};
-ghost use Rattle.laws.specs.Bytes.{part};
 ghost use Rattle.block.specs.Block.{blockAt};
 ghost use Rattle.block.specs.Steps.{bodyAt};
 ghost use Rattle.block.specs.Answers.{unlisted};
@@ -109,7 +107,7 @@ fn join(chain: &[u8], before: Standing, orders: Orders, stamp: Slot, next: usize
 {
     let at = before.length;
     let link = before.link;
-    if !linked(chain, at, link) {
+    if !sha256::stands_at(chain, at, link) {
         return refused(BAD_LINK, before);
     }
     let mut releases = before.releases;
@@ -127,21 +125,6 @@ fn join(chain: &[u8], before: Standing, orders: Orders, stamp: Slot, next: usize
             releases,
         },
     }
-}
-
-// Whether a block at a place carries a link.
-fn linked(chain: &[u8], at: usize, link: [u8; 32]) -> bool
-    requires { ⌜ at + 32 ≤ length (now chain) ⌝ }
-    ensures { λ r. ⌜ r ≡ same (part (now (chain .entry)) at 32) link ⌝ }
-{
-    let mut i = 0;
-    while i < 32 {
-        if chain[at + i] != link[i] {
-            return false;
-        }
-        i += 1;
-    }
-    true
 }
 
 // Takes orders one after the other, as long as they are valid.

@@ -25,7 +25,7 @@ headAt s =
 abbrev pub enough : (n t : ℕ) → Bool
 enough n t = both (within 1 31 n) (leb (3 * t + 1) n)
 
--- "u, the slots that an order stays pooled, is 1 to 64"
+-- "u, the slots that an order stays pooled, is 1 to 64"; 02, n: it "has no effect"
 abbrev pub rules : Head → Bool
 rules h = both (enough (h .n) (h .t)) (within 1 64 (h .u))
 

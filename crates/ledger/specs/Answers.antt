@@ -35,6 +35,7 @@ use Rattle.ledger.specs.declared.chains.CheckAnswer.{CheckAnswer}
 use Rattle.ledger.specs.declared.chains.ChooseAnswer.{ChooseAnswer}
 use Rattle.ledger.specs.declared.chains.AdoptAnswer.{AdoptAnswer}
 use Rattle.ledger.specs.declared.chains.ReportAnswer.{ReportAnswer}
+use Rattle.ledger.specs.declared.manifests.ManifestAnswer.{ManifestAnswer}
 use Rattle.ledger.specs.declared.pools.PoolAnswer.{PoolAnswer}
 use Rattle.ledger.specs.declared.pools.IssueAnswer.{IssueAnswer}
 
@@ -107,6 +108,9 @@ poolAnswer before t = record { refusal = numberOf t; place = blockPlace t; pool 
 
 abbrev pub issueAnswer : (before : ℕ) → Told ℕ → IssueAnswer
 issueAnswer before t = record { refusal = numberOf t; place = blockPlace t; length = givenOr before t }
+
+abbrev pub manifestAnswer : Told (Unit {0}) → ManifestAnswer
+manifestAnswer t = record { refusal = numberOf t; place = blockPlace t }
 
 -- ---- what the parts of an answer come to, in the code
 abbrev pub numberIn : Answer → ℕ

@@ -2,6 +2,7 @@
 // none, and its place.
 mod blocks;
 mod chains;
+mod manifests;
 mod numbers;
 mod pools;
 mod tables;
@@ -20,6 +21,8 @@ pub use chains::ledger_adopt;
 pub use chains::ledger_check;
 pub use chains::ledger_choose;
 pub use chains::ledger_report;
+pub use manifests::ManifestAnswer;
+pub use manifests::ledger_check_manifest;
 pub use numbers::DigestAnswer;
 pub use numbers::NumberAnswer;
 pub use numbers::WriteAnswer;

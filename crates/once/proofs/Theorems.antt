@@ -74,6 +74,8 @@ use Rattle.ledger.proofs.ledger_block_text.Kinds as ledger-block-text-kinds
 use Rattle.ledger.proofs.ledger_block_text.Reads as ledger-block-text
 use Rattle.ledger.proofs.ledger_check.Kinds as ledger-check-kinds
 use Rattle.ledger.proofs.ledger_check.Reads as ledger-check
+use Rattle.ledger.proofs.ledger_check_manifest.Kinds as ledger-check-manifest-kinds
+use Rattle.ledger.proofs.ledger_check_manifest.Reads as ledger-check-manifest
 use Rattle.ledger.proofs.ledger_choose.Kinds as ledger-choose-kinds
 use Rattle.ledger.proofs.ledger_choose.Reads as ledger-choose
 use Rattle.ledger.proofs.ledger_depth.Kinds as ledger-depth-kinds
@@ -106,6 +108,12 @@ use Rattle.ledger.proofs.ledger_write_block.Kinds as ledger-write-block-kinds
 use Rattle.ledger.proofs.ledger_write_block.Reads as ledger-write-block
 use Rattle.ledger.proofs.ledger_write_number.Kinds as ledger-write-number-kinds
 use Rattle.ledger.proofs.ledger_write_number.Reads as ledger-write-number
+use Rattle.lms.proofs.Answers.{verified-faithful}
+use Rattle.lms.proofs.verify.Kinds as lms-verify-kinds
+use Rattle.lms.proofs.verify.Reads as lms-verify
+use Rattle.manifest.proofs.Answers.{check-faithful}
+use Rattle.manifest.proofs.check.Kinds as manifest-check-kinds
+use Rattle.manifest.proofs.check.Reads as manifest-check
 use Rattle.number.proofs.Answers.{reading-faithful, writing-faithful as number-writing-faithful}
 use Rattle.number.proofs.length.Kinds as number-length-kinds
 use Rattle.number.proofs.length.Reads as number-length
@@ -152,6 +160,8 @@ use Rattle.report.proofs.report.Reads as report
 use Rattle.sha256.proofs.Answers.{digest-faithful}
 use Rattle.sha256.proofs.digest.Kinds as sha256-digest-kinds
 use Rattle.sha256.proofs.digest.Reads as sha256-digest
+use Rattle.sha256.proofs.stands_at.Kinds as sha256-stands-at-kinds
+use Rattle.sha256.proofs.stands_at.Reads as sha256-stands-at
 use Rattle.walk.proofs.Answers.{step-faithful}
 use Rattle.walk.proofs.place_after.Kinds as walk-place-after-kinds
 use Rattle.walk.proofs.place_after.Reads as walk-place-after
@@ -192,6 +202,17 @@ write-number-leaves-its-buffer-once κs a x y s t p q = p .1 ∙ sym (q .1)
 -- ---- sha256
 pub digest-answers-once : OneAnswer 1 sha256-digest-kinds.ps sha256-digest-kinds.r sha256-digest.Post
 digest-answers-once κs a x y s t p q = digest-faithful x y (paired (p .0 ∙ sym (q .0)) (p .1 ∙ sym (q .1)))
+
+pub stands-at-answers-once : OneAnswer 1 sha256-stands-at-kinds.ps sha256-stands-at-kinds.r sha256-stands-at.Post
+stands-at-answers-once κs a x y s t p q = p ∙ sym q
+
+-- ---- lms
+pub verify-answers-once : OneAnswer 3 lms-verify-kinds.ps lms-verify-kinds.r lms-verify.Post
+verify-answers-once κs a x y s t p q = verified-faithful x y (p ∙ sym q)
+
+-- ---- manifest
+pub check-manifest-answers-once : OneAnswer 3 manifest-check-kinds.ps manifest-check-kinds.r manifest-check.Post
+check-manifest-answers-once κs a x y s t p q = check-faithful x y (p ∙ sym q)
 
 -- ---- order
 pub more-answers-once : OneAnswer 0 order-more-kinds.ps order-more-kinds.r order-more.Post
@@ -452,3 +473,6 @@ ledger-append-leaves-the-held-buffer-once κs a x y s t p q = p .1 ∙ sym (q .1
 
 pub ledger-report-answers-once : OneAnswer 2 ledger-report-kinds.ps ledger-report-kinds.r ledger-report.Post
 ledger-report-answers-once κs a x y s t p q = p ∙ sym q
+
+pub ledger-check-manifest-answers-once : OneAnswer 3 ledger-check-manifest-kinds.ps ledger-check-manifest-kinds.r ledger-check-manifest.Post
+ledger-check-manifest-answers-once κs a x y s t p q = p ∙ sym q

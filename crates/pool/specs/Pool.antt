@@ -24,7 +24,7 @@ room = 64
 abbrev pub depots : ℕ
 depots = 4
 
--- "a depot may have at most 16 counting entries"
+-- "a depot may have at most 16 counting entries"; where an order is added, of all that are present (02, i)
 abbrev pub depotRoom : ℕ
 depotRoom = 16
 

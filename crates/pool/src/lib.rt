@@ -1,4 +1,4 @@
-// The order pool (01, "Pool an order"; 02, d and i): drop what no longer counts, add an order. The pieces: judge it, keep what counts, take what is
+// The order pool (01, "Pool an order"; 02, d, i and n): drop what no longer counts, add an order. The pieces: judge it, keep what counts, take what is
 // valid, add a last entry.
 use chain::Opened;
 use chain::Summary;

@@ -7,6 +7,8 @@ ghost use mathlib.Core.Path.{_≡_};
 ghost use mathlib.Core.List.{List};
 ghost use Prim.Native.Nat.{ℕ, _+_, _*_, _/_, _≤_, _<_};
 ghost use lib.ListN.{length, getD};
+ghost use Rattle.laws.specs.Bytes.{part};
+ghost use Rattle.laws.specs.Every.{same};
 ghost use Rattle.laws.specs.Tabulate.{tabulate, Filled};
 ghost use Rattle.sha256.specs.Sha256.{longest, padded, hashed, digestByte, digestOf};
 ghost use Rattle.sha256.specs.Answer.{told, bytesOf};
@@ -90,4 +92,31 @@ fn put_word(bytes: &mut [u8; 32], i: usize, word: u32)
     bytes[4 * i + 1] = (word / 65536 % 256) as u8;
     bytes[4 * i + 2] = (word / 256 % 256) as u8;
     bytes[4 * i + 3] = (word % 256) as u8;
+}
+
+// Whether a digest stands at a place of a slice. It does not where the slice ends before it.
+pub fn stands_at(s: &[u8], at: usize, digest: [u8; 32]) -> bool
+    ensures { λ r. ⌜ r ≡ same (part (now (s .entry)) at 32) digest ⌝ }
+{
+    if s.len() < 32 {
+        return false;
+    }
+    if s.len() - 32 < at {
+        return false;
+    }
+    stands(s, at, digest)
+}
+
+fn stands(s: &[u8], at: usize, digest: [u8; 32]) -> bool
+    requires { ⌜ at + 32 ≤ length (now s) ⌝ }
+    ensures { λ r. ⌜ r ≡ same (part (now (s .entry)) at 32) digest ⌝ }
+{
+    let mut i = 0;
+    while i < 32 {
+        if s[at + i] != digest[i] {
+            return false;
+        }
+        i += 1;
+    }
+    true
 }

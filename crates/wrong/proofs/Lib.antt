@@ -1,4 +1,5 @@
 pub mod Laws
 pub mod Opens
 pub mod Continued
+pub mod Signature
 pub mod Theorems

@@ -4,14 +4,21 @@
 use mathlib.Core.Path.{_≡_, refl, ap}
 use mathlib.Core.Bool.{true}
 use mathlib.Core.List.{[], _∷_, _++_}
+use Prim.Native.Nat.{_≤_}
+use native.Mathlib.Omega.{arith}
 use lib.Dec.{leb}
-use lib.ListN.{length, getD}
+use lib.ListN.{length, getD, length-append}
 use Rattle.laws.specs.Told.{gives}
 use Rattle.laws.specs.Every.{every, within}
 use Rattle.laws.specs.Run.{run}
 use Rattle.laws.specs.Placed.{placedIf, placingIf}
 use Rattle.number.specs.Number.{largest, groups, written, numberAt, readGroups}
-use Rattle.sha256.specs.Sha256.{digestOf}
+use Rattle.sha256.specs.Sha256.{sha256, digestOf}
+use Rattle.lms.specs.Lms.{longestMessage, verified}
+use Rattle.lms.proofs.Sizes.{hash-size}
+use Rattle.lms.proofs.Theorems.{what-is-signed-verifies}
+use Rattle.manifest.specs.Manifest.{checked as manifestChecked}
+use Rattle.manifest.proofs.Theorems.{promised, what-is-signed-is-accepted}
 use Rattle.genesis.specs.Genesis.{genesisOf, keyAt}
 use Rattle.block.specs.Block.{blockAt, frontBytes, blockBytes}
 use Rattle.block.specs.Blocks.{blockIn, frontFits, slotText}
@@ -26,6 +33,7 @@ use Rattle.wrong.specs.Versions.{Rejected, TouchesNothing, given, refuse
 use Rattle.wrong.specs.Named.{zeros, genesis, signature, parts, first, seconds, heldSeconds, verdicts, upgrade, noPool, frontFor}
 use Rattle.wrong.proofs.Laws.{rejected, touched}
 use Rattle.wrong.proofs.Opens.{opens}
+use Rattle.wrong.proofs.Signature.{secrets, key, signature as signatureOf, made}
 use Rattle.wrong.proofs.Continued.{check-from, holding-from, accepted-from, front-from, reported-from}
 
 -- ---- "one that refuses everything, one constant answer"
@@ -63,6 +71,18 @@ walk-step = rejected _ first (0 ∷ []) refl refl
 
 pub digest : Rejected digestOf
 digest = rejected _ [] (zeros 65537) refl refl
+
+pub verify : Rejected λ message. verified key (signatureOf []) message
+verify = rejected _ [] (zeros 257) (ap given (what-is-signed-verifies secrets key (signatureOf []) [] (made [] (omega arith)))) refl
+
+-- an image of no bytes, signed as release 0
+pub check-manifest : Rejected λ manifest. manifestChecked ([]) manifest key 0
+unfolding numberAt readGroups written groups
+check-manifest =
+    let signed = promised [] 0 in
+    let short : length signed ≤ longestMessage = omega (arith, length-append (written 0) (sha256 []), hash-size []) in
+    rejected _ (signed ++ signatureOf signed) []
+    (ap given (what-is-signed-is-accepted secrets [] key (signatureOf signed) 0 (omega arith) (omega arith) (made signed short))) refl
 
 pub check : Rejected λ chain. checked genesis 4 chain verdicts
 unfolding deliveredChain run judged blockAt numberAt readGroups

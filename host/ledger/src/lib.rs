@@ -37,6 +37,7 @@ mod chains;
 mod genesis;
 mod held;
 mod limits;
+mod manifest;
 #[allow(unsafe_code)]
 pub mod raw;
 mod refusal;
@@ -49,6 +50,7 @@ pub use chains::{check, choose, Checked};
 pub use genesis::{genesis_fault, key, write_genesis, GenesisFault, Part};
 pub use held::{Held, Issue, Report};
 pub use limits::*;
+pub use manifest::check_manifest;
 pub use refusal::{Kind, Refusal};
 pub use single::{digest, read_block, read_number, slot_text, write_block, write_number};
 pub use values::*;

@@ -1,7 +1,7 @@
 //! The limits of `include/ledger.h`, by its names.
 
 /// The version of the header that the declarations in [`raw`](crate::raw) follow.
-pub const VERSION: usize = 6;
+pub const VERSION: usize = 7;
 
 /// Displays are 0 to 63.
 pub const DISPLAYS: usize = 64;
@@ -43,6 +43,14 @@ pub const BLOCK_BYTES: usize = 251;
 pub const CHAIN_BYTES: usize = 64256;
 /// The most bytes that are digested.
 pub const MESSAGE_BYTES: usize = 65536;
+/// The most bytes of an image that a manifest is for.
+pub const IMAGE_BYTES: usize = 65536;
+/// The bytes of the key that manifests are signed under.
+pub const MANIFEST_KEY_BYTES: usize = 56;
+/// And of a manifest's signature.
+pub const MANIFEST_SIGNATURE_BYTES: usize = 1292;
+/// The most bytes of a manifest: a number, a digest and a signature.
+pub const MANIFEST_BYTES: usize = 1329;
 /// Both signatures verify under the key whose turn the slot is. Every other verdict is bad.
 pub const GOOD_VERDICT: u8 = 3;
 /// What a slot text begins with.

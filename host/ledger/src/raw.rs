@@ -3,7 +3,9 @@
 //!
 //! An answer begins with the refusal's number, 0 where there is none, and its place. Beside a refusal stand zeros, but for what the host keeps, which
 //! is as it came: the pool, the held chain's length, and the place that a walk has reached.
-use crate::{Block, BlockCount, Genesis, Order, Pool, Releases, Signature, Slot, DIGEST_BYTES};
+use crate::{
+    Block, BlockCount, Genesis, Order, Pool, Release, Releases, Signature, Slot, DIGEST_BYTES,
+};
 
 #[repr(C)]
 #[derive(Debug, PartialEq, Eq)]
@@ -118,6 +120,13 @@ pub struct ReportAnswer {
     pub releases: Releases,
 }
 
+#[repr(C)]
+#[derive(Debug, PartialEq, Eq)]
+pub struct ManifestAnswer {
+    pub refusal: u32,
+    pub place: BlockCount,
+}
+
 /// Sizes and offsets on System V x86-64, the same numbers that the header asserts.
 mod layout {
     use core::mem::{offset_of, size_of};
@@ -158,6 +167,7 @@ mod layout {
         PoolAnswer 2064 { refusal 0 place 4 pool 8 }
         IssueAnswer 16 { refusal 0 place 4 length 8 }
         ReportAnswer 536 { refusal 0 place 4 held 8 settled 12 settled_length 16 releases 24 }
+        ManifestAnswer 8 { refusal 0 place 4 }
     }
 }
 
@@ -224,6 +234,7 @@ macro_rules! calls {
         fn ledger_append(genesis: &[u8], clock: Slot, held: &mut [u8], length: usize, pool: Pool, controller: u32, slot_signature: Signature,
                          block_signature: Signature) -> IssueAnswer;
         fn ledger_report(genesis: &[u8], clock: Slot, held: &[u8], length: usize) -> ReportAnswer;
+        fn ledger_check_manifest(image: &[u8], manifest: &[u8], key: &[u8], settled_release: Release) -> ManifestAnswer;
     } };
 }
 
@@ -372,5 +383,15 @@ mod tests {
         assert_eq!(added.refusal, 0);
         let drafted = nulls::ledger_draft(&GENESIS, now, &[], 0, pool, 1, one, &mut [0; 192]);
         assert_eq!((drafted.refusal, drafted.length), (0, 98));
+    }
+
+    /// A number, a digest and a signature of zeros, whose type codes are not 4 and 5; without it the signature is too short.
+    #[test]
+    fn null_for_manifests() {
+        for [image, manifest, key] in emptied([&[1], &[0; 1_325], &[0; 56]]) {
+            same!(ledger_check_manifest(image, manifest, key, 0));
+        }
+        let check = |manifest: &[u8]| nulls::ledger_check_manifest(&[], manifest, &[], 0).refusal;
+        assert_eq!([check(&[]), check(&[0; 33])], [3, 23]);
     }
 }

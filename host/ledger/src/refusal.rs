@@ -78,7 +78,7 @@ macro_rules! kinds {
 kinds! {
     1 BadGenesis "BAD_GENESIS" "the genesis table breaks a rule"
     2 BadClock "BAD_CLOCK" "the slot is not 1 to 256"
-    3 Cut "CUT" "a block or a number is cut"
+    3 Cut "CUT" "a block, a number or a manifest is cut"
     4 BadNumber "BAD_NUMBER" "a number is badly written: not in its shortest form, or too large"
     5 OutOfRange "OUT_OF_RANGE" "a count, a display, a depot, a release or a slot is out of its range"
     6 BadStamp "BAD_STAMP" "a block's slot is not above the one before it; to be issued: the held chain already has a block of this slot"
@@ -95,6 +95,10 @@ kinds! {
     17 BadHeld "BAD_HELD" "the held chain is bad: put its length to 0 and take the next whole chain"
     18 BadPool "BAD_POOL" "the order pool is bad: empty it"
     20 DepotFull "DEPOT_FULL" "the depot has 16 entries in the order pool"
+    23 BadForm "BAD_FORM" "a manifest's signature, or the key, has a wrong length or is of another type"
+    24 BadSignature "BAD_SIGNATURE" "a manifest's signature does not verify under the key"
+    25 WrongImage "WRONG_IMAGE" "the image is not the one that the manifest is for"
+    26 WrongRelease "WRONG_RELEASE" "the manifest's release is not the settled one"
 }
 
 impl Display for Kind {
@@ -112,12 +116,12 @@ mod tests {
     #[test]
     fn numbers_there_and_back() {
         let numbers: std::vec::Vec<u32> = Kind::ALL.iter().map(|kind| kind.number()).collect();
-        let known: std::vec::Vec<u32> = (1..=18).chain([20]).collect();
+        let known: std::vec::Vec<u32> = (1..=18).chain([20]).chain(23..=26).collect();
         assert_eq!(numbers, known);
         for kind in Kind::ALL {
             assert_eq!(Kind::of_number(kind.number()), *kind);
         }
-        for number in [0, 19, 21, u32::MAX] {
+        for number in [0, 19, 21, 22, 27, u32::MAX] {
             assert_eq!(Kind::of_number(number), Kind::Unknown(number));
             assert_eq!(Kind::Unknown(number).number(), number);
         }

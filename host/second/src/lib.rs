@@ -8,6 +8,8 @@ pub mod chance;
 pub mod genesis;
 pub mod issue;
 pub mod lent;
+pub mod lms;
+pub mod manifest;
 pub mod number;
 pub mod order;
 pub mod pool;

@@ -13,7 +13,8 @@ pub fn digest(message: &[u8]) -> Result<[u8; 32], Refusal> {
     Ok(sha256(message))
 }
 
-fn sha256(message: &[u8]) -> [u8; 32] {
+/// The digest of a slice of any length.
+pub(crate) fn sha256(message: &[u8]) -> [u8; 32] {
     let mut state = constants().1;
     let mut blocks = message.chunks_exact(64);
     for block in &mut blocks {

@@ -130,7 +130,10 @@ mod tests {
     fn cut() {
         let sample = sample();
         for (input, wrong) in [
-            (&[][..], "the genesis length: a block or a number is cut"),
+            (
+                &[][..],
+                "the genesis length: a block, a number or a manifest is cut",
+            ),
             (
                 &[0xA4, 0x0A],
                 "the genesis length is 1316: a genesis has at most 1315 bytes",
@@ -140,7 +143,10 @@ mod tests {
                 "the genesis is cut: 98 of its 99 bytes are there",
             ),
             (&[0], "a bad genesis: n is cut"),
-            (&sample[..100], "the slot: a block or a number is cut"),
+            (
+                &sample[..100],
+                "the slot: a block, a number or a manifest is cut",
+            ),
         ] {
             assert_eq!(show(input), Err(wrong.into()));
         }

@@ -9,11 +9,11 @@ use second::block::{self, Block};
 use second::calls::Calls;
 use second::genesis::{self, Genesis};
 use second::issue::{self, Issue};
-use second::order::{BlockCount, Order, Releases, Slot};
+use second::order::{BlockCount, Order, Release, Releases, Slot};
 use second::pool::{self, Pool};
 use second::report::{self, Report};
 use second::samples::Case;
-use second::{adopt, chain, number, refusal, sha256, walk, Refusal};
+use second::{adopt, chain, manifest, number, refusal, sha256, walk, Refusal};
 
 type Answer<T> = Result<T, Refusal>;
 
@@ -328,6 +328,19 @@ pub fn report(genesis: &[u8], now: Slot, held: &[u8], held_length: usize) -> Ans
         ("held length", &held_length),
     ];
     same("report", given, &answer, &other);
+    answer
+}
+
+pub fn check_manifest(image: &[u8], bytes: &[u8], key: &[u8], settled: Release) -> Answer<()> {
+    let answer = proved::check_manifest(image, bytes, key, settled);
+    let other = manifest::check(image, bytes, key, settled);
+    let given: Given = &[
+        ("image", &Hex(image)),
+        ("manifest", &Hex(bytes)),
+        ("key", &Hex(key)),
+        ("settled release", &settled),
+    ];
+    same("check manifest", given, answer, other);
     answer
 }
 

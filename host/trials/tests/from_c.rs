@@ -1,5 +1,6 @@
 //! The programs in C that go through `include/ledger.h`: each call (`host/c/every_call.c`), the helpers (`every_helper.c`), what a call takes of
-//! the stack (`stack.c`), and the examples `small_run.c` and `recovery.c`. What the examples print is worked out here by hand from 01.
+//! the stack (`stack.c`), and the examples `small_run.c`, `recovery.c` and `boot_check.c`. What the examples print is worked out here by hand from 01
+//! and 02.
 use std::path::Path;
 use std::process::Command;
 
@@ -58,6 +59,22 @@ slot 6: has signed for this slot, and signs nothing
 slot 8: adopts 1140 bytes and holds 7 blocks
 ";
 
+/// n = 1 and t = 0: a block is settled exactly if its slot + 1 < now. So in slot 3 the first block is, which takes display 4 to release 8, and in
+/// slot 4 the second too. A manifest for another release than the settled one is 26, be it a later or an earlier one. Half a manifest has its number
+/// and digest, but a signature that is too short.
+const BOOT_CHECK: &str = "\
+slot 3: display 4 is to boot 8
+release 8: starts
+release 300: refused 26 0, the manifest's release is not the settled one
+slot 4: display 4 is to boot 300
+release 8: refused 26 0, the manifest's release is not the settled one
+release 300: starts
+a damaged image: refused 25 0, the image is not the one that the manifest is for
+a damaged manifest: refused 24 0, a manifest's signature does not verify under the key
+half a manifest: refused 23 0, a manifest's signature, or the key, has a wrong length or is of another type
+no manifest: refused 3 0, a block, a number or a manifest is cut
+";
+
 /// Builds a program of `host/c` with the header, the helpers and the archive, as its reader would, and gives what it prints and whether it succeeded.
 fn printed(name: &str) -> (String, bool) {
     let built_program = Path::new(env!("CARGO_TARGET_TMPDIR")).join(name);
@@ -85,6 +102,11 @@ fn the_account_of_the_c_example() {
 #[test]
 fn the_account_of_a_recovery() {
     assert_eq!(printed("recovery"), (RECOVERY.into(), true));
+}
+
+#[test]
+fn the_account_of_a_bootloader() {
+    assert_eq!(printed("boot_check"), (BOOT_CHECK.into(), true));
 }
 
 /// The header's declarations.

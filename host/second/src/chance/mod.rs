@@ -1,5 +1,6 @@
 //! A generator of chance, and the tables, blocks and faults that cases by chance are made of.
 mod exchanges;
+mod manifests;
 mod pools;
 
 use crate::block::Block;

@@ -1,7 +1,9 @@
-//! Material for tests: tables, chains with proper links, faults to put into them, and one case with the arguments of every call.
+//! Material for tests: tables, chains with proper links, faults to put into them, one case with the arguments of every call, and manifests.
 mod case;
+mod manifests;
 
 pub use case::*;
+pub use manifests::*;
 
 use super::block::Block;
 use super::chain;

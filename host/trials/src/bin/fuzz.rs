@@ -45,6 +45,10 @@ fn round(seed: u64) {
     small_calls(&mut chance);
     calls(&chance.exchange());
     calls(&chance.issuing());
+    // seldom: a manifest takes thousands of digests, where the other calls take some
+    if chance.once_in(20) {
+        let _ = chance.boot().clone().check(both::check_manifest);
+    }
     if chance.once_in(2_000) {
         let (n, t) = chance.of(&[(1, 0), (6, 1), (7, 1), (11, 2)]);
         let slots = 40;

@@ -6,12 +6,14 @@
 pub mod across;
 mod blocks;
 mod chains;
+mod manifests;
 mod numbers;
 mod pools;
 mod tables;
 
 pub use blocks::{read_block, slot_text, walk_step, write_block};
 pub use chains::{adopt, check, choose, report};
+pub use manifests::check_manifest;
 pub use numbers::{digest, read_number, write_number};
 pub use pools::{add_order, append, block_text, draft, drop_entries};
 pub use tables::{key, read_genesis, turn};

@@ -8,7 +8,7 @@ use denote.Ref.{now}
 use borrow.Author.Tests.{not-true, not-false}
 use borrow.Author.Needs.{needs}
 use Rattle.block.specs.Answers.{unlisted}
-use Rattle.chain.proofs.Judging.{begins, ends, other-link, other-orders, joins}
+use Rattle.chain.proofs.Judging.{ends, other-link, other-orders, joins}
 use Rattle.chain.proofs.judge.join.Statement.{statement}
 use Rattle.chain.proofs.judge.join.Tie as tie
 
@@ -17,10 +17,8 @@ room s =
     let (long, inside) = ends (now (s .args .chain)) (s .args .before) (unlisted (s .args .orders)) (s .args .stamp .0) (s .args .next) (s .pre .2) in
     (omega arith, omega arith)
 
-linked-requires : tie.Need-linked-requires
-linked-requires c κs =
-    let s = c .before .before in
-    begins (now (s .args .chain)) (s .args .before) (unlisted (s .args .orders)) (s .args .stamp .0) (s .args .next) (s .pre .2)
+stands-at-requires : tie.Need-stands-at-requires
+stands-at-requires c κs = search needs
 
 refused-requires : tie.Need-refused-requires
 refused-requires c κs = search needs
@@ -28,7 +26,7 @@ refused-requires c κs = search needs
 returns : tie.Need-returns
 returns c =
     let s = c .before .before .before .before .before in
-    let link = sym (c .before .before .linked .ensures) ∙ not-true _ (c .before .if1 .taken) in
+    let link = sym (c .before .before .stands-at .ensures) ∙ not-true _ (c .before .if1 .taken) in
     c .refused .ensures ∙ sym (other-link (now (s .args .chain)) (s .args .before) (unlisted (s .args .orders)) (s .args .stamp .0) (s .args .next) (s .pre .2) link)
 
 obey-requires : tie.Need-obey-requires
@@ -40,7 +38,7 @@ refused-requires-2 c κs = search needs
 returns-2 : tie.Need-returns-2
 returns-2 c =
     let s = c .before .before .before .before .before .before .before .before .before in
-    let link = sym (c .before .before .before .before .before .before .linked .ensures) ∙ not-false _ (c .before .before .before .before .before .if1 .left) in
+    let link = sym (c .before .before .before .before .before .before .stands-at .ensures) ∙ not-false _ (c .before .before .before .before .before .if1 .left) in
     let orders = sym (rw (not-true (c .before .before .obey .result) (c .before .if2 .taken)) at (c .before .before .obey .ensures)) in
     c .refused2 .ensures ∙ sym (other-orders (now (s .args .chain)) (s .args .before) (unlisted (s .args .orders)) (s .args .stamp .0) (s .args .next) (s .pre .2) link orders)
 
@@ -62,7 +60,7 @@ add-t19 c = search needs
 returns-3 : tie.Need-returns-3
 returns-3 c =
     let s = c .before .before .before .before .before .before .before .before .before .before .before .before in
-    let link = sym (c .before .before .before .before .before .before .before .before .before .linked .ensures) ∙ not-false _ (c .before .before .before .before .before .before .before .before .if1 .left) in
+    let link = sym (c .before .before .before .before .before .before .before .before .before .stands-at .ensures) ∙ not-false _ (c .before .before .before .before .before .before .before .before .if1 .left) in
     let orders = sym (rw (not-false (c .before .before .before .before .before .obey .result) (c .before .before .before .before .if2 .left)) at (c .before .before .before .before .before .obey .ensures)) in
     rw (c .before .before .digest .ensures .1) (sym (joins (now (s .args .chain)) (s .args .before) (unlisted (s .args .orders)) (s .args .stamp .0) (s .args .next) (s .pre .2) link (c .before .before .before .before .before .obey .last .0) orders))
 
@@ -70,7 +68,7 @@ pub join-spec : {M : Type 1} → statement M
 join-spec =
     tie.close
     (tie.spec
-    linked-requires
+    stands-at-requires
     refused-requires
     returns
     obey-requires

@@ -1,7 +1,9 @@
-//! Times the proved library against the second implementation and a plain C digest, all in one run. Prints tables of ratios.
+//! Times the proved library against the second implementation, a plain C digest and a plain C check of manifests, all in one run. Prints tables of
+//! ratios.
 mod chains;
 mod digests;
 mod held;
+mod manifests;
 
 use std::hint::black_box;
 use std::time::Instant;
@@ -30,4 +32,6 @@ fn main() {
     chains::table();
     println!();
     held::table();
+    println!();
+    manifests::table();
 }

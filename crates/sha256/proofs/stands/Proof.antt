@@ -1,4 +1,4 @@
--- `chain::judge::linked` meets its contract.
+-- `sha256::stands` meets its contract.
 -- Assumes nothing.
 use Prim.Native.Nat.{ℕ, _-_, _≤_}
 use mathlib.Core.List.{List}
@@ -12,23 +12,23 @@ use Rattle.laws.proofs.Bytes.{part-length, part-byte}
 use Rattle.laws.proofs.Every.{same-from, same-over}
 use Rattle.laws.specs.Every.{same}
 use Rattle.laws.specs.Bytes.{part}
-use Rattle.chain.proofs.judge.linked.Statement.{statement}
-use Rattle.chain.proofs.judge.linked.Tie as tie
+use Rattle.sha256.proofs.stands.Statement.{statement}
+use Rattle.sha256.proofs.stands.Tie as tie
 
 abbrev Inv-loop : tie.InvT-loop
-Inv-loop chain at link i₀ i = (i ≤ 32) × (same (part chain at 32) link ≡ same (drop i (part chain at 32)) (drop i link))
+Inv-loop s at digest i₀ i = (i ≤ 32) × (same (part s at 32) digest ≡ same (drop i (part s at 32)) (drop i digest))
 
 abbrev μ-loop : tie.MeasureT-loop
-μ-loop chain at link i₀ i = 32 - i
+μ-loop s at digest i₀ i = 32 - i
 
 abbrev carried : tie.Start Inv-loop μ-loop → List ℕ
-carried c = part (now (c .args .chain)) (c .args .at) 32
+carried c = part (now (c .args .s)) (c .args .at) 32
 
 carried-size : (c : tie.Start Inv-loop μ-loop) → length (carried c) ≡ 32
-carried-size c = part-length (now (c .args .chain)) (c .args .at) 32 (c .pre)
+carried-size c = part-length (now (c .args .s)) (c .args .at) 32 (c .pre)
 
-link-size : (c : tie.Start Inv-loop μ-loop) → length (c .args .t3) ≡ 32
-link-size c = search needs
+digest-size : (c : tie.Start Inv-loop μ-loop) → length (c .args .t3) ≡ 32
+digest-size c = search needs
 
 loop-holds : tie.Need-loop-holds Inv-loop μ-loop
 loop-holds c = (omega arith, refl)
@@ -47,8 +47,8 @@ returns c =
     let loop = c .before .before .before .loop in
     let start = c .before .before .before .before in
     let differ : getD (carried start) (loop .i) 0 ≡ getD (start .args .t3) (loop .i) 0 → ⊥ =
-    λ e. c .if1 .taken (sym (part-byte (now (start .args .chain)) (start .args .at) 32 (loop .i) (c .before .before .loop-test .taken)) ∙ e) in
-    sym (loop .inv .1 ∙ same-from (carried start) (start .args .t3) (loop .i) (omega (arith, carried-size start)) (omega (arith, link-size start)) ∙ rw (ne-eqb _ _ differ))
+    λ e. c .if1 .taken (sym (part-byte (now (start .args .s)) (start .args .at) 32 (loop .i) (c .before .before .loop-test .taken)) ∙ e) in
+    sym (loop .inv .1 ∙ same-from (carried start) (start .args .t3) (loop .i) (omega (arith, carried-size start)) (omega (arith, digest-size start)) ∙ rw (ne-eqb _ _ differ))
 
 add-i : tie.Need-add-i Inv-loop μ-loop
 add-i c = search needs
@@ -61,17 +61,17 @@ loop-again c =
     let loop = c .before .before .before .loop in
     let start = c .before .before .before .before in
     let equal : getD (carried start) (loop .i) 0 ≡ getD (start .args .t3) (loop .i) 0 =
-    part-byte (now (start .args .chain)) (start .args .at) 32 (loop .i) (c .before .before .loop-test .taken) ∙ c .if1 .left in
-    (omega arith, loop .inv .1 ∙ same-from (carried start) (start .args .t3) (loop .i) (omega (arith, carried-size start)) (omega (arith, link-size start)) ∙ rw (eq-eqb _ _ equal))
+    part-byte (now (start .args .s)) (start .args .at) 32 (loop .i) (c .before .before .loop-test .taken) ∙ c .if1 .left in
+    (omega arith, loop .inv .1 ∙ same-from (carried start) (start .args .t3) (loop .i) (omega (arith, carried-size start)) (omega (arith, digest-size start)) ∙ rw (eq-eqb _ _ equal))
 
 returns-2 : tie.Need-returns-2 Inv-loop μ-loop
 returns-2 c =
     let loop = c .before .loop in
     let start = c .before .before in
-    sym (loop .inv .1 ∙ same-over (carried start) (start .args .t3) (loop .i) (omega (arith, carried-size start)) (omega (arith, link-size start)))
+    sym (loop .inv .1 ∙ same-over (carried start) (start .args .t3) (loop .i) (omega (arith, carried-size start)) (omega (arith, digest-size start)))
 
-pub linked-spec : {M : Type 1} → statement M
-linked-spec =
+pub stands-spec : {M : Type 1} → statement M
+stands-spec =
     tie.close
     (tie.spec
     Inv-loop

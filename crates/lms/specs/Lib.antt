@@ -1,0 +1,3 @@
+pub mod Lms
+pub mod Answer
+pub mod Signing
