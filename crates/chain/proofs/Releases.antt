@@ -23,7 +23,7 @@ set-raises (x ∷ l) zero value h (suc display) = omega arith
 set-raises (x ∷ l) (suc at) value h zero = omega arith
 set-raises (x ∷ l) (suc at) value h (suc display) = set-raises l at value h display
 
-obeyed-raises : (releases : List ℕ) (orders : List Order) (after : List ℕ) → obeyed releases orders ≡ gives after → NoneFell releases after
+pub obeyed-raises : (releases : List ℕ) (orders : List Order) (after : List ℕ) → obeyed releases orders ≡ gives after → NoneFell releases after
 obeyed-raises releases [] after e display = omega (arith, ap (λ (l : List ℕ). getD l display 0) (gives-same e))
 obeyed-raises releases (order ∷ rest) after e display =
     let (fine, more) = unless-gives (valid releases order) 10 0 _ after e in

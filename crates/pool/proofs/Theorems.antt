@@ -3,7 +3,7 @@
 -- that did not refuse". 02, n: "a dropped entry could not have become valid later".
 -- Assumes nothing.
 use Prim.Native.Nat.{ℕ, _<_, _≤_}
-use mathlib.Core.Path.{_≡_, refl, ap, _∙_}
+use mathlib.Core.Path.{_≡_, refl, sym, ap, _∙_}
 use mathlib.Core.Bool.{Bool, true, false}
 use mathlib.Core.List.{List, [], _∷_, _++_}
 use native.Mathlib.Omega.{arith}
@@ -14,12 +14,13 @@ use Rattle.laws.specs.Told.{Told, gives, refuses, then, unless, numberOf}
 use Rattle.laws.specs.Every.{both}
 use Rattle.laws.specs.Repeated.{repeated}
 use Rattle.laws.specs.Fold.{those}
-use Rattle.laws.proofs.Told.{then-gives, unless-gives}
+use Rattle.laws.proofs.Cases.{lt-cases}
+use Rattle.laws.proofs.Told.{gives-not-refuses, then-gives, unless-gives}
 use Rattle.laws.proofs.Each.{each-every}
 use Rattle.laws.proofs.Fold.{those-fewer}
 use Rattle.laws.proofs.Every.{both-true}
 use Rattle.number.specs.Number.{numberAt}
-use Rattle.order.specs.Order.{orderInRange, valid}
+use Rattle.order.specs.Order.{orderInRange, valid, obeyed}
 use Rattle.order.specs.declared.Order.{Order}
 use Rattle.genesis.specs.Genesis.{headAt, tableAt, faulty, genesisOf, clockFits}
 use Rattle.chain.specs.Chain.{longest, linkOf, opened, held, begun, passed, bad, heldChain, with, holding}
@@ -27,6 +28,7 @@ use Rattle.chain.specs.declared.Opened.{Opened}
 use Rattle.chain.specs.Blocks.{followed}
 use Rattle.chain.specs.declared.Standing.{Standing}
 use Rattle.chain.proofs.Theorems.{no-release-falls}
+use Rattle.chain.proofs.Releases.{obeyed-raises}
 use Rattle.block.specs.Block.{Parts}
 use Rattle.order.proofs.Validity.{valid-parts}
 use Rattle.chain.specs.declared.Summary.{Summary}
@@ -64,6 +66,16 @@ module _ (genesis : List ℕ) (clock : ℕ) (buffer : List ℕ) (size : ℕ) (po
       → added genesis clock buffer size pool order depot
       ≡ gives (poolOf (entriesIn pool ++ (record { order = order; slot = h .0 .clock; depot = depot } ∷ [])))
   taken-if-fewer-are less = rw (past .holds, past .fits, past .offer, past .good, lt-ltb own depotRoom less, lt-ltb _ room (room-for-it less))
+
+-- two pools that agree on how many entries are the asker's own, both past the earlier refusals, meet 20 alike
+pub pools-alike-in-the-askers-own-meet-20-alike : (genesis : List ℕ) (clock : ℕ) (buffer : List ℕ) (size : ℕ) (pool pool′ : Pool) (order : Order) (depot : ℕ)
+    (h : Opened × Summary) → Past genesis clock buffer size pool order depot h → Past genesis clock buffer size pool′ order depot h
+    → shareOf depot (entriesIn pool) ≡ shareOf depot (entriesIn pool′) → added genesis clock buffer size pool order depot ≡ refuses 20 0
+    → added genesis clock buffer size pool′ order depot ≡ refuses 20 0
+pools-alike-in-the-askers-own-meet-20-alike genesis clock buffer size pool pool′ order depot h past past′ alike e =
+    lt-cases (shareOf depot (entriesIn pool)) depotRoom
+    (λ less. gives-not-refuses (sym e ∙ taken-if-fewer-are genesis clock buffer size pool order depot h past less))
+    (λ many. refused-with-20-if-sixteen-are-its-own genesis clock buffer size pool′ order depot h past′ (omega (arith, alike, many)))
 
 -- ---- the two calls, and the one that they were
 module _ (genesis : List ℕ) (clock : ℕ) (buffer : List ℕ) (size : ℕ) (pool : Pool) (order : Order) (depot : ℕ) (h : Opened × Summary)
@@ -107,18 +119,22 @@ drop-and-then-add-answer-as-pooling-did genesis clock buffer size pool order dep
       and-then-adding-answers-as-pooling-did genesis clock buffer size pool order depot h holds fits ∙ e,
     )
 
--- ---- 02, n: "a dropped entry could not have become valid later in any chain that extends the settled blocks". It was dropped since it no longer counts
-pub a-dropped-entry-is-never-valid-again : (s : Summary) (e : Entry) → counts s e ≡ false → (blocks : List Parts) (after : Standing)
-    → followed (s .settled) blocks ≡ gives after → valid (after .releases) (e .order) ≡ false
-a-dropped-entry-is-never-valid-again s e stopped blocks after extends =
-    by-test (valid (after .releases) (e .order)) refl
+-- ---- 02, n: "a dropped entry could not have become valid later in any chain that extends the settled blocks": neither behind blocks that follow them,
+-- nor behind some orders of the next block. It was dropped since it no longer counts
+pub a-dropped-entry-is-never-valid-again : (s : Summary) (e : Entry) → counts s e ≡ false
+    → (blocks : List Parts) (after : Standing) → followed (s .settled) blocks ≡ gives after
+    → (orders : List Order) (releases : List ℕ) → obeyed (after .releases) orders ≡ gives releases
+    → valid releases (e .order) ≡ false
+a-dropped-entry-is-never-valid-again s e stopped blocks after extends orders releases further = by-test (valid releases (e .order)) refl
   where
-    by-test : (β : Bool) → valid (after .releases) (e .order) ≡ β → β ≡ false
+    by-test : (β : Bool) → valid releases (e .order) ≡ β → β ≡ false
     by-test false is = refl
     by-test true is =
-        let (_, there, _) = valid-parts (after .releases) (e .order) is in
+        let (_, there, _) = valid-parts releases (e .order) is in
         let above = leb-false (getD (s .settled .releases) (e .order .display) 0) (e .order .expected) stopped in
-        absurd (omega (arith, there, above, no-release-falls (s .settled) blocks after extends (e .order .display)))
+        let rose = no-release-falls (s .settled) blocks after extends (e .order .display) in
+        let rose′ = obeyed-raises (after .releases) orders releases further (e .order .display) in
+        absurd (omega (arith, there, above, rose, rose′))
 
 -- ---- 13 can no longer occur
 abbrev Never : {A : Type 0} → Told A → Type 0

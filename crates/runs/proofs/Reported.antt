@@ -1,22 +1,27 @@
 -- What correct controllers report: the argument's settled lists, as bytes and releases.
 -- Assumes nothing.
-use Prim.Native.Nat.{ℕ, suc, _+_, _-_, _≤_}
+use Prim.Native.Nat.{ℕ, suc, _+_, _-_, _<_, _≤_}
 use mathlib.Core.Path.{_≡_, refl, sym, ap, _∙_, subst}
-use mathlib.Core.Bool.{true, not}
+use mathlib.Core.Bool.{Bool, true, false, not}
 use mathlib.Core.List.{List, _∷_, _++_}
 use native.Mathlib.Omega.{arith}
 use lib.ListN.{length, take, getD}
 use Rattle.laws.specs.Told.{gives}
 use Rattle.laws.specs.Fold.{folded}
+use Rattle.laws.specs.Format.{Each}
 use Rattle.laws.proofs.Told.{gives-same, then-gives}
 use Rattle.laws.proofs.Taken.{joined-append}
 use Rattle.genesis.specs.Genesis.{turn, depth}
 use Rattle.genesis.proofs.Sound.{depth-is}
-use Rattle.block.specs.Block.{Parts, blockBytes}
+use Rattle.order.specs.Order.{valid, obeyed}
+use Rattle.order.specs.declared.Order.{Order}
+use Rattle.order.proofs.Validity.{valid-parts}
+use Rattle.block.specs.Block.{Parts, blockBytes, Fits}
 use Rattle.chain.specs.Chain.{none}
 use Rattle.chain.specs.Blocks.{chainBytes, followed, NoneFell}
 use Rattle.chain.specs.declared.Standing.{Standing}
 use Rattle.chain.proofs.Theorems.{the-bytes-tell-the-blocks, blocks-follow-part-by-part, no-release-falls}
+use Rattle.chain.proofs.Releases.{obeyed-raises}
 use Rattle.report.specs.Report.{Report}
 use Rattle.agreement.specs.Core.{howMany, Windows, Begins, settled}
 use Rattle.agreement.proofs.Theorems as argument
@@ -79,6 +84,41 @@ module _ (r : Run) (premises : Premises r) where
       (argument.settled-blocks-begin-each-later-chain (setting r) (laws r premises) (depth (r .table)) window j j′ (x .blocks) (y .blocks) later (omega (arith, in-run′ .1))
       (x .viable) (y .viable)) in
       (rest, y .are ∙ e ∙ ap (λ (l : List ℕ). l ++ rest) (sym (x .bytes)))
+
+  -- an order that expects less than what one reports settled is valid behind no chain that another holds then or later, nor behind further orders
+  module _ (i k : ℕ) (i-correct : correct r i) (k-correct : correct r k) (j j′ : ℕ) (in-run : InRun r j) (in-run′ : InRun r j′) (later : j ≤ j′)
+      (a : Report) (says : reports r i j ≡ gives a) (order : Order) (stopped : order .expected < getD (a .releases) (order .display) 0) where
+    pub never-valid : (blocks : List Parts) → Each Fits blocks → holds r k j′ ≡ chainBytes blocks
+        → (whole : Standing) → followed (none (opening (r .genesis) (r .table) 0)) blocks ≡ gives whole
+        → (orders : List Order) (releases : List ℕ) → obeyed (whole .releases) orders ≡ gives releases → valid releases order ≡ false
+    never-valid blocks fit are whole follows orders releases further = by-test (valid releases order) refl
+      where
+        x : Reporter r premises i j a
+        x = reporter r premises i i-correct j in-run a says
+
+        rose : getD (a .releases) (order .display) 0 ≤ getD (whole .releases) (order .display) 0
+        rose =
+            let start = none (opening (r .genesis) (r .table) 0) in
+            let (b, says′) = given r premises k k-correct j′ in-run′ in
+            let y = reporter r premises k k-correct j′ in-run′ b says′ in
+            let same-blocks : blocks ≡ y .blocks = the-bytes-tell-the-blocks blocks (y .blocks) fit (y .viable .passes .fits) (sym are ∙ y .are) in
+            let (rest, e) = argument.settled-blocks-begin-each-later-chain (setting r) (laws r premises) (depth (r .table)) window j j′ (x .blocks) (y .blocks) later
+            (omega (arith, in-run′ .1)) (x .viable) (y .viable) in
+            let (middle, first, second) = then-gives (followed start (settled (setting r) (depth (r .table)) j (x .blocks))) (λ after. followed after rest) whole
+            (sym (ap (followed start) (same-blocks ∙ e) ∙ blocks-follow-part-by-part start (settled (setting r) (depth (r .table)) j (x .blocks)) rest) ∙ follows) in
+            let same-middle : middle ≡ x .last = gives-same (sym first ∙ x .follows) in
+            omega (
+              arith,
+              no-release-falls middle rest whole second (order .display),
+              ap (λ (q : Standing). getD (q .releases) (order .display) 0) same-middle,
+              ap (λ (l : List ℕ). getD l (order .display) 0) (x .settled-releases),
+            )
+
+        by-test : (β : Bool) → valid releases order ≡ β → β ≡ false
+        by-test false is = refl
+        by-test true is =
+            let (_, there, _) = valid-parts releases order is in
+            absurd (omega (arith, there, stopped, rose, obeyed-raises (whole .releases) orders releases further (order .display)))
 
   pub same : (i k : ℕ) → correct r i → correct r k → (j : ℕ) → InRun r j → (a b : Report) → reports r i j ≡ gives a → reports r k j ≡ gives b
       → (take (a .length) (holds r i j) ≡ take (b .length) (holds r k j)) × (a .settled ≡ b .settled) × (a .length ≡ b .length) × (a .releases ≡ b .releases)

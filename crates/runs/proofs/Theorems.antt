@@ -1,18 +1,25 @@
 -- Demand 3, of the calls. `Premises` (specs/Runs.antt) says what is asked of a run, in the demand's words; `holds`, `issued` and `reports` are what the
 -- definitions give that the contracts of adopt, pool, append and report cite.
 -- Assumes nothing.
-use Prim.Native.Nat.{ℕ, suc, _+_, _-_, _≤_}
+use Prim.Native.Nat.{ℕ, suc, _+_, _-_, _<_, _≤_}
 use mathlib.Core.Path.{_≡_}
-use mathlib.Core.Bool.{not}
+use mathlib.Core.Bool.{not, false}
 use mathlib.Core.List.{List, _∷_, _++_}
-use lib.ListN.{take}
+use lib.ListN.{take, getD}
 use Rattle.laws.specs.Told.{gives}
 use Rattle.laws.specs.Fold.{folded}
+use Rattle.laws.specs.Format.{Each}
 use Rattle.genesis.specs.Genesis.{turn}
-use Rattle.chain.specs.Blocks.{NoneFell}
+use Rattle.order.specs.Order.{valid, obeyed}
+use Rattle.order.specs.declared.Order.{Order}
+use Rattle.block.specs.Block.{Parts, Fits}
+use Rattle.chain.specs.Chain.{none}
+use Rattle.chain.specs.Blocks.{chainBytes, followed, NoneFell}
+use Rattle.chain.specs.declared.Standing.{Standing}
 use Rattle.report.specs.Report.{Report}
 use Rattle.agreement.specs.Core.{howMany, Begins}
 use Rattle.runs.specs.Runs.{Event, delivery, afterEvent, adopts, AdoptedOrEqualled, appends, Run, correct, afterSlot, inSlot, holds, reports, issued, InRun, Premises}
+use Rattle.runs.proofs.Nodes.{opening}
 use Rattle.runs.proofs.Agreed.{given}
 use Rattle.runs.proofs.Reported as reported
 
@@ -27,6 +34,14 @@ module _ (r : Run) (premises : Premises r) where
       (a : Report) (says : reports r i j ≡ gives a) where
     pub what-is-settled-begins-every-later-chain : Begins (take (a .length) (holds r i j)) (holds r k j′)
     what-is-settled-begins-every-later-chain = reported.begins r premises i k i-correct k-correct j j′ in-run in-run′ later a says
+
+    -- 02, n, over demand 3: an order that one correct controller drops in a slot after its deliveries, since it expects less than what is settled there, is
+    -- valid on no correct controller's chain then or later: neither behind its last block nor behind further orders
+    pub what-one-drops-is-valid-on-no-later-chain : (order : Order) → order .expected < getD (a .releases) (order .display) 0
+        → (blocks : List Parts) → Each Fits blocks → holds r k j′ ≡ chainBytes blocks
+        → (whole : Standing) → followed (none (opening (r .genesis) (r .table) 0)) blocks ≡ gives whole
+        → (orders : List Order) (releases : List ℕ) → obeyed (whole .releases) orders ≡ gives releases → valid releases order ≡ false
+    what-one-drops-is-valid-on-no-later-chain = reported.never-valid r premises i k i-correct k-correct j j′ in-run in-run′ later a says
 
     -- so it stays settled, and no reported release is ever lower later, or at another correct controller
     module _ (b : Report) (says′ : reports r k j′ ≡ gives b) where
