@@ -1,6 +1,6 @@
 -- A block's types say what `Typed` says: of whatever machine values the code holds as a block, what its row tells.
 -- Assumes nothing.
-use mathlib.Core.Path.{_≡_, sym, _∙_}
+use mathlib.Core.Path.{sym, _∙_}
 use mathlib.Core.List.{List, [], _∷_, map}
 use Prim.Native.Nat.{ℕ}
 use lib.ListN.{length-map}

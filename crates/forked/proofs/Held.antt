@@ -19,7 +19,6 @@ use Rattle.genesis.specs.Genesis.{genesisOf, turn}
 use Rattle.block.specs.Block.{Parts}
 use Rattle.chain.specs.Chain.{longest, delivered}
 use Rattle.chain.specs.Blocks.{chainBytes, Admits, Below}
-use Rattle.chain.specs.declared.Opened.{Opened}
 use Rattle.chain.specs.declared.Standing.{Standing}
 use Rattle.chain.specs.declared.Summary.{Summary}
 use Rattle.chain.proofs.Theorems.{blocks-that-follow-and-are-admitted-are-accepted, the-bytes-tell-the-blocks, what-is-written-of-blocks-is-bytes}

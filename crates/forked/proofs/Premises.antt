@@ -8,13 +8,11 @@ use lib.ListN.{length, getD, length-append}
 use borrow.Author.Tests.{eqb-false}
 use Rattle.laws.specs.Format.{Bytes, Each}
 use Rattle.laws.proofs.Each.{each-parts}
-use Rattle.order.specs.declared.Order.{Order}
 use Rattle.genesis.specs.Genesis.{turn}
 use Rattle.block.specs.Block.{Parts, Fits}
 use Rattle.chain.specs.Blocks.{chainBytes}
 use Rattle.chain.proofs.Theorems.{what-is-written-of-blocks-is-bytes, bytes-at-the-front-are-blocks-at-the-front}
 use Rattle.agreement.specs.Core.{howMany}
-use Rattle.pool.specs.Pool.{room}
 use Rattle.runs.proofs.Among.{among-each, nowhere, the-only}
 use Rattle.runs.specs.Runs.{Event, delivery, pooling, correct, afterSlot, holds, issued, Among, Encounter, in-delivery, as-held, as-issued, InRun, OfRun, Typed, LastOf, Premises}
 use Rattle.forked.specs.Forked.{table, next, other, chain, given, verdicts, events, run}

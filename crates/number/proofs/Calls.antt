@@ -1,7 +1,7 @@
 -- What `number::write` and `number::read` do one after the other, in the words of their contracts: `answers` and `leaves` are the two clauses of
 -- the write's.
 -- Assumes nothing.
-use mathlib.Core.Path.{_≡_, ap, _∙_}
+use mathlib.Core.Path.{_≡_}
 use mathlib.Core.Bool.{true}
 use mathlib.Core.List.{List}
 use Prim.Native.Nat.{ℕ, _+_, _-_, _≤_}

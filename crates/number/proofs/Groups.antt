@@ -9,7 +9,7 @@ use Rattle.laws.proofs.Cases.{lt-cases}
 use lib.Dec.{ltb}
 use lib.ListN.{length, getD}
 use borrow.Author.Tests.{lt-ltb, le-ltb, ltb-true}
-use Rattle.laws.specs.Told.{Told, gives, refuses, Found, found, then}
+use Rattle.laws.specs.Told.{Told, gives, refuses, Found, found}
 use Rattle.laws.proofs.Told.{gives-not-refuses, gives-same, then-gives, unless-gives}
 use Rattle.number.specs.Number.{joined, readGroups, numberAt}
 use Rattle.number.specs.Steps.{finished}

@@ -4,21 +4,18 @@ use Prim.Native.Nat.{ℕ, _+_, _<_, _≤_}
 use mathlib.Core.Path.{_≡_, refl, sym, ap}
 use mathlib.Core.Bool.{Bool, true, false}
 use mathlib.Core.List.{List, [], _∷_, _++_}
-use native.Mathlib.Omega.{arith}
 use lib.ListN.{length, set, length-append}
-use lib.Seq.{take-append-seam, length-take-le, take-all}
+use lib.Seq.{take-append-seam}
 use borrow.Author.Tests.{lt-ltb, le-ltb}
 use Rattle.laws.specs.Told.{gives, refuses}
 use Rattle.laws.specs.Fold.{those}
-use Rattle.laws.proofs.Cases.{lt-cases}
-use Rattle.laws.proofs.Fold.{those-fewer, tailed-add}
+use Rattle.laws.proofs.Fold.{tailed-add}
 use Rattle.order.specs.Order.{orderInRange, valid}
 use Rattle.order.specs.declared.Order.{Order}
 use Rattle.chain.specs.declared.Opened.{Opened}
 use Rattle.chain.specs.declared.Summary.{Summary}
-use Rattle.pool.specs.Pool.{room, depots, depotRoom, noEntry, entriesIn, poolOf, counts, counting, ordersOf, shareOf, taking, offerFits, joined}
+use Rattle.pool.specs.Pool.{room, depots, depotRoom, noEntry, entriesIn, poolOf, counts, ordersOf, shareOf, taking, offerFits, joined}
 use Rattle.pool.specs.declared.Entry.{Entry}
-use Rattle.pool.specs.declared.Pool.{Pool}
 
 -- a pool of entries holds these
 pub entries-of : (l : List Entry) → entriesIn (poolOf l) ≡ l

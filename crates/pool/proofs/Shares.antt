@@ -8,8 +8,6 @@ use native.Mathlib.Omega.{arith}
 use lib.Dec.{leb, eqb}
 use lib.ListN.{length, length-append}
 use borrow.Author.Tests.{le-leb, leb-true, eqb-true, eqb-false, eq-eqb}
-use Rattle.laws.specs.Pick.{pick}
-use Rattle.laws.specs.Every.{both}
 use Rattle.laws.specs.Fold.{those}
 use Rattle.laws.specs.Format.{Each}
 use Rattle.laws.proofs.Cases.{lt-cases}

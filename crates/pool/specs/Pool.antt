@@ -38,8 +38,8 @@ entriesIn p = take (p .count) (p .entries)
 abbrev pub poolOf : List Entry → Pool
 poolOf l = record { count = length l; entries = tailed room noEntry l }
 
--- 18: "count above 64, or within the count an entry with a display above 63, slot 0 or slot above now"; 02, b: or "a release above the largest"; d: or "a
--- depot above 3"
+-- 18: "count above 64, or within the count an entry with a display above 63, slot 0 or slot above now"; 02, b: or "a release above the largest"; d: or
+-- "a depot above 3"
 abbrev pub entryFits : ℕ → Entry → Bool
 entryFits clock e = both (orderInRange (e .order)) (both (ltb (e .depot) depots) (within 1 clock (e .slot .0)))
 

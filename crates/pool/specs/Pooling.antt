@@ -1,5 +1,5 @@
--- 01, "Pool an order", as it was before 02, i split it: one call that drops what no longer counts and adds an order. No code has it any more; it stands
--- here for the theorem that the two calls answer as it did.
+-- 01, "Pool an order", as it was before 02, i split it: one call that drops what no longer counts and adds an order. No code has it any more; it
+-- stands here for the theorem that the two calls answer as it did.
 -- Assumes nothing.
 use Prim.Native.Nat.{ℕ}
 use mathlib.Core.List.{List}

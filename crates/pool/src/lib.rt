@@ -1,5 +1,5 @@
-// The order pool (01, "Pool an order"; 02, d, i and n): drop what no longer counts, add an order. The pieces: judge it, keep what counts, take what is
-// valid, add a last entry.
+// The order pool (01, "Pool an order"; 02, d, i and n): drop what no longer counts, add an order. The pieces: judge it, keep what counts, take what
+// is valid, add a last entry.
 use chain::Opened;
 use chain::Summary;
 use order::BlockCount;

@@ -1,20 +1,19 @@
 -- One controller's pool: whatever is added to it, it never meets 18.
 -- Assumes nothing.
 use Prim.Native.Nat.{ℕ, _≤_}
-use mathlib.Core.Path.{_≡_, refl, sym, ap, _∙_, subst}
+use mathlib.Core.Path.{_≡_, refl, sym, ap, subst}
 use mathlib.Core.Bool.{true}
 use mathlib.Core.List.{List, [], _∷_, _++_}
 use native.Mathlib.Omega.{arith}
-use lib.Dec.{ltb, leb}
+use lib.Dec.{ltb}
 use lib.ListN.{length, length-append}
 use borrow.Author.Tests.{lt-ltb, ltb-true, le-leb}
 use Rattle.laws.specs.Told.{Told, gives, refuses}
-use Rattle.laws.specs.Every.{within, every}
 use Rattle.laws.specs.Format.{Each}
 use Rattle.laws.proofs.Told.{gives-same, then-gives, unless-gives}
 use Rattle.laws.proofs.Every.{both-true, within-true, within-here}
 use Rattle.laws.proofs.Fold.{those-fewer}
-use Rattle.laws.proofs.Each.{every-each, each-every, each-weaker, each-append, each-those}
+use Rattle.laws.proofs.Each.{each-every, each-weaker, each-append, each-those}
 use Rattle.order.specs.Order.{orderInRange, valid}
 use Rattle.order.specs.declared.Order.{Order}
 use Rattle.chain.specs.Chain.{opened, heldChain, holding}

@@ -3,7 +3,7 @@
 use Prim.Native.Nat.{ℕ, zero, suc, _+_, _-_, _%_, _≤_, zero-le}
 use mathlib.Core.Path.{_≡_, refl, sym, ap, _∙_, subst}
 use mathlib.Core.Bool.{Bool, true, false, not}
-use mathlib.Core.List.{List, [], _∷_, _++_, append-assoc, append-nil}
+use mathlib.Core.List.{List, [], _∷_, _++_, append-nil}
 use native.Mathlib.Nat.{mod-lt}
 use native.Mathlib.Omega.{arith}
 use lib.Dec.{eqb}
@@ -14,7 +14,6 @@ use Rattle.laws.specs.Fold.{folded}
 use Rattle.laws.proofs.Cases.{lt-cases, eq-cases}
 use Rattle.laws.proofs.Every.{within-here}
 use Rattle.laws.proofs.Each.{each-append}
-use Rattle.order.specs.declared.Order.{Order}
 use Rattle.genesis.specs.Genesis.{turn}
 use Rattle.genesis.proofs.Sound.{sound}
 use Rattle.block.specs.Block.{Parts}

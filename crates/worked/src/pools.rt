@@ -1,4 +1,5 @@
-// Entries dropped from a pool, and orders added to it: `drop`, `add`. What is printed ends with the pool as it then is, entries past its count that are not of zeros too.
+// Entries dropped from a pool, and orders added to it: `drop`, `add`. What is printed ends with the pool as it then is, entries past its count that are
+// not of zeros too.
 use crate::blocks::print_order;
 use crate::fields;
 use crate::fields::string;

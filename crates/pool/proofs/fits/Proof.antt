@@ -1,6 +1,6 @@
 -- `pool::fits` meets its contract.
 -- Assumes nothing.
-use mathlib.Core.Path.{_≡_, sym, ap, _∙_}
+use mathlib.Core.Path.{sym, ap, _∙_}
 use mathlib.Core.List.{List}
 use borrow.Author.Tests.{not-true, not-false}
 use borrow.Author.Needs.{needs}

@@ -10,7 +10,7 @@ use borrow.Author.Tests.{not-true, not-false}
 use borrow.Author.Needs.{needs}
 use Rattle.laws.specs.Told.{gives}
 use Rattle.order.specs.Order.{orderInRange, valid}
-use Rattle.pool.specs.Pool.{room, depots, depotRoom, counting, ordersOf, shareOf, taking, entriesIn}
+use Rattle.pool.specs.Pool.{room, depotRoom, counting, ordersOf, shareOf, taking, entriesIn}
 use Rattle.pool.specs.Answers.{poolOr}
 use Rattle.pool.proofs.Joining.{entries-of, pool-add, out-of-range, no-depot, not-valid, depot-full, joins}
 use Rattle.pool.proofs.Shares.{room-left}

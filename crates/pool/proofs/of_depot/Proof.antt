@@ -1,8 +1,8 @@
 -- `pool::of_depot` meets its contract.
 -- Assumes nothing.
-use Prim.Native.Nat.{ℕ, _+_, _-_, _≤_}
+use Prim.Native.Nat.{ℕ, _-_, _≤_}
 use mathlib.Core.Path.{_≡_, refl, sym, ap, _∙_, subst}
-use mathlib.Core.List.{List, [], _∷_, _++_}
+use mathlib.Core.List.{[], _∷_}
 use native.Mathlib.Omega.{arith}
 use lib.ListN.{length, length-map, length-append, take, getD}
 use borrow.Author.Tests.{eq-eqb, ne-eqb}
@@ -10,7 +10,6 @@ use borrow.Author.Needs.{needs}
 use Rattle.laws.specs.Fold.{those}
 use Rattle.laws.proofs.Fold.{those-one-more, those-no-more, take-least}
 use Rattle.pool.specs.Pool.{room, noEntry, isOf, shareOf}
-use Rattle.pool.specs.declared.Entry.{Entry}
 use Rattle.pool.proofs.Pools.{least-few}
 use Rattle.pool.proofs.of_depot.Statement.{statement}
 use Rattle.pool.proofs.of_depot.Tie as tie
