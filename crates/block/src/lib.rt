@@ -15,7 +15,7 @@ pub use writing::{length, slot_text, write, write_front};
 
 // A block without its last 64 bytes.
 #[repr(C)]
-#[derive(Drop)]
+#[derive(Clone, Copy)]
 pub struct Front {
     pub link: [u8; 32],
     pub orders: Orders,

@@ -86,14 +86,14 @@ fn read_order(s: &[u8], at: usize) -> OrderRead
 
 // The orders of a block: the first `count` of the list. The others are zeros.
 #[repr(C)]
-#[derive(Drop)]
+#[derive(Clone, Copy)]
 pub struct Orders {
     pub count: u32,
     pub list: [Order; 8],
 }
 
 // The place after what was read.
-#[derive(Drop)]
+#[derive(Clone, Copy)]
 pub enum Place {
     Next(usize),
     Refused(u32),

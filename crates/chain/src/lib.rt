@@ -17,7 +17,7 @@ use refusal::{Answer, BAD_CLOCK, BAD_GENESIS, BAD_HELD, TOO_LONG};
 pub const LONGEST: usize = 64256;
 
 // The genesis table, the link that the first block carries, and the slot of a call.
-#[derive(Drop)]
+#[derive(Clone, Copy)]
 pub struct Opened {
     pub table: Genesis,
     pub link: [u8; 32],
@@ -32,7 +32,7 @@ pub struct Opening {
 }
 
 // What the blocks of a chain, from the first to one of them, come to.
-#[derive(Drop)]
+#[derive(Clone, Copy)]
 pub struct Standing {
     pub count: BlockCount,
     // how many bytes they take
@@ -46,14 +46,14 @@ pub struct Standing {
 }
 
 // All blocks of a chain, and those of them that are settled.
-#[derive(Drop)]
+#[derive(Clone, Copy)]
 pub struct Summary {
     pub whole: Standing,
     pub settled: Standing,
 }
 
 // How a chain comes to a call.
-#[derive(Drop)]
+#[derive(Clone, Copy)]
 pub enum Way {
     Delivered,
     Held,

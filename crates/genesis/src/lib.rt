@@ -17,7 +17,7 @@ pub const KEY_BYTES: usize = 32;
 
 // The table. `keys_at` is the place of the first key in its bytes.
 #[repr(C)]
-#[derive(Drop)]
+#[derive(Clone, Copy)]
 pub struct Genesis {
     pub n: u32,
     pub t: u32,
@@ -58,7 +58,7 @@ pub fn read(bytes: &[u8]) -> Table
 }
 
 // What stands before the releases, as it was read: no rule need hold of it.
-#[derive(Drop)]
+#[derive(Clone, Copy)]
 pub struct Head {
     pub n: Number,
     pub t: Number,

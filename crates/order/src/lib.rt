@@ -1,18 +1,18 @@
 // Orders on the releases of 64 displays (01, "Orders, blocks, chains"), and the two kinds of number that are never mixed.
 ghost use Rattle.std.specs.Prelude.{◌≡◌, ◌+◌, ◌-◌, ltb};
 ghost use Rattle.laws.specs.Every as spec;
-ghost use Rattle.order.specs.Order.{order_in_range, valid as isValid, taken};
+ghost use Rattle.order.specs.Order.{order_in_range, valid as is_valid, taken};
 
 use number::{LARGEST, Number};
 
 // A slot, or a block's slot stamp.
 #[repr(C)]
-#[derive(Drop)]
+#[derive(Clone, Copy)]
 pub struct Slot(pub u32);
 
 // A number of blocks.
 #[repr(C)]
-#[derive(Drop)]
+#[derive(Clone, Copy)]
 pub struct BlockCount(pub u32);
 
 // The comparisons of the two kinds stand here and nowhere else. Outside this crate no slot and no count is unwrapped to be compared, so that a
@@ -70,7 +70,7 @@ pub const LAST_DISPLAY: u32 = 63;
 pub const LAST_SLOT: u32 = 256;
 
 #[repr(C)]
-#[derive(Drop)]
+#[derive(Clone, Copy)]
 pub struct Order {
     pub display: u32,
     // the release that the display is to have before
@@ -90,7 +90,7 @@ pub fn in_range(order: Order) -> bool
 }
 
 pub fn valid(releases: &[Release; 64], order: Order) -> bool
-    ensures { result ≡ isValid releases.now order }
+    ensures { result ≡ is_valid releases.now order }
 {
     let display = order.display as usize;
     if DISPLAYS <= display {
@@ -101,7 +101,7 @@ pub fn valid(releases: &[Release; 64], order: Order) -> bool
 
 // Takes an order if it is valid, and says whether it was.
 pub fn take(releases: &mut [Release; 64], order: Order) -> bool
-    ensures value { result ≡ isValid releases.old order }
+    ensures value { result ≡ is_valid releases.old order }
     ensures releases_after { releases.new ≡ taken releases.old order }
 {
     if valid(&*releases, order) {

@@ -20,7 +20,7 @@ pub const DEPOTS: u32 = 4;
 pub const DEPOT_ROOM: u32 = 16;
 
 #[repr(C)]
-#[derive(Drop)]
+#[derive(Clone, Copy)]
 pub struct Entry {
     pub order: Order,
     // the slot in which it was pooled
@@ -31,7 +31,7 @@ pub struct Entry {
 
 // Any pool may be handed in.
 #[repr(C)]
-#[derive(Drop)]
+#[derive(Clone, Copy)]
 pub struct Pool {
     pub count: u32,
     pub entries: [Entry; 64],

@@ -2,7 +2,7 @@
 use order::BlockCount;
 
 // What the call gives stands beside it in the call's own struct.
-#[derive(Drop)]
+#[derive(Clone, Copy)]
 pub enum Answer {
     Good,
     // the number, and the place: a block counted from 1, or 0

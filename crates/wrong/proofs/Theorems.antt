@@ -17,7 +17,7 @@ use Rattle.sha256.specs.Sha256.{sha256, digest_of}
 use Rattle.lms.specs.Lms.{longest_message, verified}
 use Rattle.lms.proofs.Sizes.{hash_size}
 use Rattle.lms.proofs.Theorems.{what_is_signed_verifies}
-use Rattle.manifest.specs.Manifest.{checked as manifestChecked}
+use Rattle.manifest.specs.Manifest.{checked as manifest_checked}
 use Rattle.manifest.proofs.Theorems.{promised, what_is_signed_is_accepted}
 use Rattle.genesis.specs.Genesis.{genesis_of, key_at}
 use Rattle.block.specs.Block.{block_at, front_bytes, block_bytes}
@@ -76,7 +76,7 @@ pub verify : Rejected λ message. verified key (signature_of []) message
 verify = rejected _ [] (zeros 257) (ap given (what_is_signed_verifies secrets key (signature_of []) [] (made [] (omega arith)))) refl
 
 -- an image of no bytes, signed as release 0
-pub check_manifest : Rejected λ manifest. manifestChecked ([]) manifest key 0
+pub check_manifest : Rejected λ manifest. manifest_checked ([]) manifest key 0
 unfolding number_at read_groups written groups
 check_manifest =
     let signed = promised [] 0 in

@@ -1,0 +1,24 @@
+-- `sha256::hash` meets its contract. The loop's invariant: the hash is that of the first n blocks.
+-- Assumes nothing.
+use Rattle.std.proofs.Common.{◌≡◌, ◌-◌, ◌/◌, ◌≤◌, length, refl, ap, ◌∙◌, add-one, arith, rules}
+use Rattle.sha256.proofs.Padded.{padded_length}
+use Rattle.sha256.specs.Sha256.{padded, hashed}
+use Rattle.sha256.specs.Steps.{block_count}
+use Rattle.sha256.proofs.hash.Goals as goal
+
+pub loop-n-init : goal.loop-n-init
+unfolding hashed
+loop-n-init c = (omega arith, refl)
+
+pub loop-n-preserved : goal.loop-n-preserved
+unfolding hashed
+loop-n-preserved c =
+    let loop = c.loop-n in
+    (omega arith, c.compress-next.ensures ∙ rw (add-one, c.block.ensures, loop.invariant.1))
+
+pub returns : goal.returns
+returns c =
+    let loop = c.loop-n in
+    let s = c.args.s.now in
+    let all : loop.n ≡ length (padded s) / 64 = omega (arith, padded_length s) in
+    loop.invariant.1 ∙ ap (hashed (padded s)) all

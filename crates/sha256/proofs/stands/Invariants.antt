@@ -1,0 +1,14 @@
+-- `sha256::stands` meets its contract.
+-- Assumes nothing.
+use Rattle.std.proofs.Common.{◌≡◌, ℕ, ◌-◌, ◌≤◌, List, length, get_or, drop, sym, refl, ◌∙◌, arith, rules, eq-eqb, ne_eqb}
+use Rattle.laws.proofs.Bytes.{part_length, part_byte}
+use Rattle.laws.proofs.Every.{same_from, same_over}
+use Rattle.laws.specs.Every.{same}
+use Rattle.laws.specs.Bytes.{part}
+use Rattle.sha256.proofs.stands.Given as goal
+
+abbrev pub invariant-loop-i : goal.invariant-loop-i
+invariant-loop-i l = (l.i ≤ 32) × (same (part l.s l.at 32) l.digest ≡ same (drop l.i (part l.s l.at 32)) (drop l.i l.digest))
+
+abbrev pub decreases-loop-i : goal.decreases-loop-i
+decreases-loop-i l = 32 - l.i
