@@ -1,14 +1,12 @@
 -- Which refusals the steps of a check have.
 -- Assumes nothing.
-use mathlib.Core.Path.{◌≡◌, sym, ap}
+use mathlib.Core.Path.{◌≡◌, refl, sym, ap}
 use mathlib.Core.Bool.{Bool, true, false}
 use mathlib.Core.List.{List, [], ◌∷◌}
 use Prim.Native.Nat.{ℕ, zero, suc, ◌+◌, ◌≤◌}
 use native.Mathlib.Omega.{arith}
 use lib.Dec.{ltb, leb}
 use lib.ListN.{length, get_or}
-use types.Run.{OneOf, miss}
-use denote.Enum.Declared.{tag_of}
 use borrow.Author.Tests.{le-leb}
 use Rattle.laws.specs.Bytes.{bytes_at}
 use Rattle.laws.specs.Pick.{pick}
@@ -18,7 +16,6 @@ use Rattle.lms.specs.Lms.{longest_message, signs, verified, verifies, well_forme
 use Rattle.lms.specs.Answer.{told}
 use Rattle.lms.specs.declared.Verified.{Verified}
 use Rattle.lms.specs.declared.Verified.TheVariants.{Valid, TooLong, Malformed, Invalid}
-use Rattle.lms.specs.contracts.Verified.{the_type}
 use Rattle.manifest.specs.Manifest.{head_at}
 
 unless_low : {A : Type 0} (fine : Bool) (number place : ℕ) (t : Told A) → number ≤ 4 → number_of t ≤ 4 → number_of (unless fine number place t) ≤ 4
@@ -63,9 +60,9 @@ signs_not_16 key signature message = by (well_formed key signature) (verifies ke
     by true true e = omega arith
 
 -- so a verification that is neither good nor malformed found that it does not verify
-pub not_verified : (v : Verified) → OneOf (3 ∷ 1 ∷ []) (tag_of the_type v) → (key signature message : List ℕ) → told v ≡ signs key signature message
+pub not_verified : (v : Verified) → (v ≡ Valid → ⊥) → (v ≡ Malformed → ⊥) → (key signature message : List ℕ) → told v ≡ signs key signature message
     → signs key signature message ≡ refuses 24 0
-not_verified Valid h key signature message e = absurd (miss (3 ∷ 1 ∷ []) 0 tt h)
-not_verified TooLong h key signature message e = absurd (signs_not_16 key signature message (sym (ap number_of e)))
-not_verified Malformed h key signature message e = absurd (miss (3 ∷ 1 ∷ []) 2 tt h)
-not_verified Invalid h key signature message e = sym e
+not_verified Valid h k key signature message e = absurd (h refl)
+not_verified TooLong h k key signature message e = absurd (signs_not_16 key signature message (sym (ap number_of e)))
+not_verified Malformed h k key signature message e = absurd (k refl)
+not_verified Invalid h k key signature message e = sym e

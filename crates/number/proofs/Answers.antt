@@ -4,9 +4,6 @@ use mathlib.Core.Path.{◌≡◌, refl}
 use Prim.Native.Nat.{ℕ}
 use lib.Dec.{eqb}
 use mathlib.Core.List.{[], ◌∷◌}
-use types.Run.{OneOf, miss}
-use denote.Enum.Declared.{tag_of}
-use Rattle.number.specs.contracts.Reading.{the_type}
 use Rattle.laws.specs.Pick.{pick}
 use Rattle.laws.specs.Told.{Told, gives, refuses, Found}
 use Rattle.laws.specs.Answers.{Faithful}
@@ -44,7 +41,7 @@ pub writing_faithful : Faithful told_writing
 writing_faithful = undone told_writing writing_of writing_back
 
 -- a reading that is no value refuses
-pub not_a_value : (r : Reading) → OneOf (1 ∷ 2 ∷ []) (tag_of the_type r) → (number : ℕ) × (told r ≡ refuses number 0)
-not_a_value (Value v n) h = absurd (miss (1 ∷ 2 ∷ []) 0 tt h)
+pub not_a_value : (r : Reading) → ((value next : ℕ) → r ≡ Value value next → ⊥) → (number : ℕ) × (told r ≡ refuses number 0)
+not_a_value (Value v n) h = absurd (h v n refl)
 not_a_value Cut h = (3, refl)
 not_a_value Badly h = (4, refl)

@@ -1,0 +1,10 @@
+-- `lms::strings::value_at` meets its contract.
+-- Assumes nothing.
+use mathlib.Core.Path.{◌∙◌}
+use Rattle.laws.proofs.Placed.{copied_part}
+use borrow.Author.Rules.{rules}
+use Rattle.lms.proofs.strings.value_at.Goals as goal
+
+pub returns : goal.returns
+returns c =
+    c.put.ensures.buffer ∙ copied_part c.args.s.now c.args.at 32 c.requires
