@@ -1,7 +1,8 @@
 -- Which refusals the steps of a check have.
 -- Assumes nothing.
-use mathlib.Core.Path.{◌≡◌, refl, sym, ap}
+use mathlib.Core.Path.{◌≡◌, sym, ap, ◌∙◌}
 use mathlib.Core.Bool.{Bool, true, false}
+use mathlib.Core.Logic.{◌⊎◌, inl, inr}
 use mathlib.Core.List.{List, [], ◌∷◌}
 use Prim.Native.Nat.{ℕ, zero, suc, ◌+◌, ◌≤◌}
 use native.Mathlib.Omega.{arith}
@@ -60,9 +61,7 @@ signs_not_16 key signature message = by (well_formed key signature) (verifies ke
     by true true e = omega arith
 
 -- so a verification that is neither good nor malformed found that it does not verify
-pub not_verified : (v : Verified) → (v ≡ Valid → ⊥) → (v ≡ Malformed → ⊥) → (key signature message : List ℕ) → told v ≡ signs key signature message
+pub not_verified : (v : Verified) → (v ≡ Invalid) ⊎ (v ≡ TooLong) → (key signature message : List ℕ) → told v ≡ signs key signature message
     → signs key signature message ≡ refuses 24 0
-not_verified Valid h k key signature message e = absurd (h refl)
-not_verified TooLong h k key signature message e = absurd (signs_not_16 key signature message (sym (ap number_of e)))
-not_verified Malformed h k key signature message e = absurd (k refl)
-not_verified Invalid h k key signature message e = sym e
+not_verified v (inl is) key signature message e = sym e ∙ ap told is
+not_verified v (inr is) key signature message e = absurd (signs_not_16 key signature message (sym (ap number_of e) ∙ ap (λ (u : Verified). number_of (told u)) is))

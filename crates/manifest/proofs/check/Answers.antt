@@ -32,5 +32,5 @@ returns-in-Invalid c =
     let all : part manifest end (length manifest - end) ≡ signature = take_all (length manifest - end) signature (rw length-drop (omega arith)) in
     let signed : told c.verify.result ≡ signs key signature message =
     c.verify.ensures ∙ ap (λ (signature : List ℕ). verified key signature message) all ∙ short_verified key signature message few in
-    let invalid = not_verified c.verify.result ? ? key signature message signed in
+    let invalid = not_verified c.verify.result c.in-Invalid.is key signature message signed in
     c.refused-in-Invalid.ensures ∙ rw (le-leb _ _ c.if-image-gt-LONGEST.false, head_is, invalid)
