@@ -14,8 +14,15 @@ use Rattle.printed.specs.Station.{genesis_at, stated}
 use Rattle.printed.proofs.Inputs.{no_genesis, no_clock, all_read}
 use Rattle.printed.proofs.answered.Goals as goal
 
+-- the chain begins within the input, or where it ends
 pub slice_bounds-stated-count-in-Value : goal.slice_bounds-stated-count-in-Value
 slice_bounds-stated-count-in-Value c =
+    let behind : c.in-Value.at ≤ length c.args.input.now = (let clock-is : number_at c.args.input.now c.in-Genesis.to ≡ found c.in-Value.clock c.in-Value.at = sym (rw c.in-Value.is at c.read.ensures) in
+    (number_ends c.args.input.now c.in-Genesis.to _ (clock-is)).inside) in
+    behind
+
+pub slice_bounds-stated-start-in-Value : goal.slice_bounds-stated-start-in-Value
+slice_bounds-stated-start-in-Value c =
     let behind : c.in-Value.at ≤ length c.args.input.now = (let clock-is : number_at c.args.input.now c.in-Genesis.to ≡ found c.in-Value.clock c.in-Value.at = sym (rw c.in-Value.is at c.read.ensures) in
     (number_ends c.args.input.now c.in-Genesis.to _ (clock-is)).inside) in
     behind

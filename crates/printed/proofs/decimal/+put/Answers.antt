@@ -1,6 +1,6 @@
 -- `printed::decimal::put` meets its contract: there is room for the higher digits, and behind these for the lowest.
 -- Assumes nothing.
-use Prim.Native.Nat.{ℕ, ◌+◌, ◌/◌, ◌%◌, ◌^◌, ◌<◌}
+use Prim.Native.Nat.{ℕ, ◌+◌, ◌/◌, ◌%◌, ◌^◌, ◌<◌, ◌≤◌}
 use mathlib.Core.Path.{◌≡◌, sym, ap}
 use mathlib.Core.List.{List, [], ◌∷◌, ◌++◌}
 use native.Mathlib.Omega.{arith}
@@ -16,7 +16,7 @@ room : (out : List ℕ) (at value : ℕ) → 10 ≤ value → value < 10 ^ 20 �
 room out at value many small enough = room_same (decimal_more value many small) enough
 
 pub bounds-out-at : goal.bounds-out-at
-bounds-out-at t c = omega (arith, c.requires.1.enough, ap length (decimal_one c.args.value c.if-value-lt10.true))
+bounds-out-at t c = omega (arith, c.requires.enough, ap length (decimal_one c.args.value c.if-value-lt10.true))
 
 pub returns-then-value-lt10 : goal.returns-then-value-lt10
 returns-then-value-lt10 t c =
@@ -28,7 +28,7 @@ put-next-requires t c =
     let a = c.args in
     let v = a.value in
     let small : v < 10 ^ 20 = omega arith in
-    (omega arith, room_first (decimal (v / 10)) (digit (v % 10) ∷ []) (room a.out.now a.at v c.if-value-lt10.false small c.requires.1))
+    (omega arith, room_first (decimal (v / 10)) (digit (v % 10) ∷ []) (room a.out.now a.at v c.if-value-lt10.false small c.requires))
 
 -- room for the lowest digit behind the others
 pub bounds-out-next : goal.bounds-out-next
@@ -36,7 +36,7 @@ bounds-out-next t c =
     let a = c.args in
     let v = a.value in
     let small : v < 10 ^ 20 = omega arith in
-    let last = room_then (decimal (v / 10)) (digit (v % 10) ∷ []) c.put-next.ensures (room a.out.now a.at v c.if-value-lt10.false small c.requires.1) in
+    let last = room_then (decimal (v / 10)) (digit (v % 10) ∷ []) c.put-next.ensures (room a.out.now a.at v c.if-value-lt10.false small c.requires) in
     omega (arith, last.enough)
 
 pub overflow_add-result-2 : goal.overflow_add-result-2
@@ -44,7 +44,7 @@ overflow_add-result-2 t c =
     let a = c.args in
     let v = a.value in
     let small : v < 10 ^ 20 = omega arith in
-    let last = room_then (decimal (v / 10)) (digit (v % 10) ∷ []) c.put-next.ensures (room a.out.now a.at v c.if-value-lt10.false small c.requires.1) in
+    let last = room_then (decimal (v / 10)) (digit (v % 10) ∷ []) c.put-next.ensures (room a.out.now a.at v c.if-value-lt10.false small c.requires) in
     omega (arith, last.enough)
 
 pub returns : goal.returns
