@@ -1,4 +1,6 @@
 // The rule that decides between two chains (01, "Adopt"): more blocks, and nothing else. Block counts alone are compared, never stamps.
+#![tactic(auto)]
+
 ghost use Rattle.std.specs.Prelude.{◌≡◌};
 ghost use Rattle.laws.specs.Told.{refuses, given_or, number_of, place_of};
 ghost use Rattle.chain.specs.Chain as chain;

@@ -1,4 +1,6 @@
 // Lent buffers: bytes written at a place, or refused as a whole (01, refusal 15: "lent output too short").
+#![tactic(auto)]
+
 ghost use Rattle.std.specs.Prelude.{◌≡◌, ◌+◌, ◌≤◌, leb, length};
 ghost use Rattle.std.proofs.lemmas.List.Edits.{sets};
 ghost use Rattle.laws.specs.Told.{given_or};

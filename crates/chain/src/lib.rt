@@ -1,4 +1,6 @@
 // Chains (01, "The calls"): what every call opens with, the check of a delivered chain, and the summary of a held one.
+#![tactic(auto)]
+
 mod judge;
 mod pass;
 

@@ -1,1 +1,2 @@
 // No function: the definition of SHA-256 held to the standard's own examples (proofs/Examples.antt).
+#![tactic(auto)]

@@ -1,5 +1,7 @@
 // The genesis table (01, "Genesis"): read as a whole or refused as a whole, and the two rules that hang on it, whose turn a slot is and how deep
 // a block must lie to be settled.
+#![tactic(auto)]
+
 mod sheet;
 
 ghost use Rattle.std.specs.Prelude.{◌≡◌, ◌+◌, ◌*◌};

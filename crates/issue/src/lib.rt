@@ -1,4 +1,6 @@
 // Issuing a block (01, "Draft and append"): what is signed is what is appended, since all three calls write the same front.
+#![tactic(auto)]
+
 ghost use Rattle.std.specs.Prelude.{◌≡◌, true, take};
 ghost use Rattle.laws.specs.Told.{refuses, given_or};
 ghost use Rattle.laws.specs.Placed.{placed, placing};

@@ -1,5 +1,7 @@
 // The calls of the ledger for hosts in C and Rust. Each says what the call that it wraps says: first the refusal's number, 0 where there is
 // none, and its place.
+#![tactic(auto)]
+
 mod blocks;
 mod chains;
 mod manifests;

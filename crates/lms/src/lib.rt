@@ -1,4 +1,6 @@
 // LMS signatures verified (RFC 8554): LMS_SHA256_M32_H5 over LMOTS_SHA256_N32_W8, and no other types (02, l).
+#![tactic(auto)]
+
 mod one_time;
 mod strings;
 mod tree;

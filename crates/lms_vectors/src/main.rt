@@ -1,5 +1,7 @@
 // Runs the signatures of standard input through `lms::verify`: as they are, with a byte changed, and with other lengths. SOURCE.md says how a case is
 // written, and what each letter of the output means.
+#![tactic(auto)]
+
 ghost use Rattle.std.specs.Prelude.{◌≤◌};
 
 use libc::{STDIN_FILENO, STDOUT_FILENO};

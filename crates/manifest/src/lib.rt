@@ -1,5 +1,7 @@
 // The boot manifest (02, l): a release, the digest of its image, and a signature over both. It is judged against the image, the key and the release
 // that is settled for the display.
+#![tactic(auto)]
+
 ghost use Rattle.std.specs.Prelude.{◌≡◌, ◌+◌, ◌≤◌, length};
 ghost use Rattle.laws.specs.Told.{refuses};
 ghost use Rattle.sha256.specs.Sha256.{longest};

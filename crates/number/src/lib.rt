@@ -1,4 +1,6 @@
 // Numbers of seven-bit groups (01, "Numbers and digests"): read at a place of a slice, written at a place of a lent buffer, and their length.
+#![tactic(auto)]
+
 ghost use Rattle.std.specs.Prelude.{◌≡◌, ◌+◌, ◌<◌, ◌≤◌, leb, length};
 ghost use Rattle.std.proofs.lemmas.List.Edits.{sets};
 ghost use Rattle.laws.specs.Placed.{placed_if, placing_if};

@@ -4,7 +4,8 @@
 use mathlib.Core.Path.{sym, ap, ◌∙◌}
 use Rattle.laws.specs.Told.{given_or}
 use Rattle.laws.specs.NoChoice.{OneAnswer, OneLater}
-use Rattle.chain.specs.Answers.{held_or}
+use Rattle.chain.specs.Answers.{opened_or, held_or}
+use Rattle.chain.specs.Chain.{opened}
 use Rattle.adopt.proofs.Answers.{adopted_faithful, judged_faithful}
 use Rattle.adopt.proofs.adopt.Kinds as adopt-kinds
 use Rattle.adopt.proofs.adopt.Reads as adopt
@@ -318,7 +319,7 @@ pub held_answers_once : OneAnswer 1 chain-held-kinds.ps chain-held-kinds.r Chain
 held_answers_once κs a x y s t p q = passed_faithful x y (paired (p.0 ∙ sym q.0) (p.1 ∙ sym q.1))
 
 pub hold_answers_once : OneAnswer 2 chain-hold-kinds.ps chain-hold-kinds.r chain-hold.Post
-hold_answers_once κs a x y s t p q = holding_faithful x y (paired (p.0 ∙ sym q.0) (paired (p.1.0 ∙ sym q.1.0) (p.1.1 ∙ ap (held_or _) (p.0 ∙ sym q.0) ∙ sym q.1.1)))
+hold_answers_once κs a x y s t p q = holding_faithful x y (paired (p.0 ∙ sym q.0) (paired (p.1.0 ∙ sym q.1.0) (p.1.1 ∙ ap (held_or (opened_or (opened a.0.now a.1.0.0))) (p.0 ∙ sym q.0) ∙ sym q.1.1)))
 
 pub check_answers_once : OneAnswer 3 chain-check-kinds.ps chain-check-kinds.r chain-check.Post
 check_answers_once κs a x y s t p q = checked_faithful x y (paired (p.0 ∙ sym q.0) (p.1 ∙ sym q.1))

@@ -1,1 +1,2 @@
 // No function: that no contract of a public function leaves a choice.
+#![tactic(auto)]

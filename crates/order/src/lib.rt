@@ -1,4 +1,6 @@
 // Orders on the releases of 64 displays (01, "Orders, blocks, chains"), and the two kinds of number that are never mixed.
+#![tactic(auto)]
+
 ghost use Rattle.std.specs.Prelude.{◌≡◌, ◌+◌, ◌-◌, ltb};
 ghost use Rattle.laws.specs.Every as spec;
 ghost use Rattle.order.specs.Order.{order_in_range, valid as is_valid, taken};

@@ -1,5 +1,7 @@
 // The order pool (01, "Pool an order"; 02, d, i and n): drop what no longer counts, add an order. The pieces: judge it, keep what counts, take what
 // is valid, add a last entry.
+#![tactic(auto)]
+
 ghost use Rattle.std.specs.Prelude.{◌≡◌, true, ◌+◌, ◌<◌, leb, get_or, set};
 ghost use Rattle.laws.specs.Pick.{pick};
 ghost use Rattle.laws.specs.Told.{refuses};

@@ -1,4 +1,6 @@
 // What the report program prints (01, "Worked by hand"): from the bytes of its input to the bytes of its output.
+#![tactic(auto)]
+
 mod decimal;
 mod lines;
 

@@ -1,4 +1,6 @@
 // No function: the refusal numbers of 01, "Refusal numbers", and of 02, and the answer of a call that may refuse.
+#![tactic(auto)]
+
 use order::BlockCount;
 
 // What the call gives stands beside it in the call's own struct.

@@ -1,4 +1,6 @@
 // The report (01, "Report"): how many blocks are held, how many of them are settled, and what the settled ones come to.
+#![tactic(auto)]
+
 ghost use Rattle.std.specs.Prelude.{◌≡◌};
 ghost use Rattle.laws.specs.Told.{refuses};
 ghost use Rattle.report.specs.Report as spec;

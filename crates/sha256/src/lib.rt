@@ -1,4 +1,6 @@
 // SHA-256 (FIPS 180-4) of a slice of up to 65,536 bytes (01, "Numbers and digests").
+#![tactic(auto)]
+
 mod bits;
 mod padding;
 mod rounds;

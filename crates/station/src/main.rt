@@ -1,5 +1,7 @@
 // The report program (01, "Worked by hand"): it reads its input and writes what `printed::station` makes of it. A read that fails is not the end of the
 // input: then there is no report, since what came before might make an older one.
+#![tactic(auto)]
+
 ghost use Rattle.std.specs.Prelude.{◌≤◌, ◌≡◌, length};
 ghost use Rattle.station.specs.Input.{size_of};
 

@@ -1,4 +1,6 @@
 // Runs published vectors: FIPS 180-4's and lengths around a block for SHA-256, and 01's table for numbers. Writes what comes out, a line each.
+#![tactic(auto)]
+
 use libc::STDOUT_FILENO;
 use number::{Number, Reading, Writing};
 use sha256::Answer;

@@ -1,4 +1,6 @@
 // A walk over a chain (01, "Orders, blocks, chains"): one step on a slice and a place, and the thin struct that holds the two.
+#![tactic(auto)]
+
 ghost use Rattle.std.specs.Prelude.{◌≡◌};
 ghost use Rattle.walk.specs.Walk.{step_at, place_after, told, block_beside};
 

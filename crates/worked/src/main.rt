@@ -1,4 +1,6 @@
 // Runs the cases of standard input through the library and prints what it answers, a case a line. The form of a case is in SOURCE.md.
+#![tactic(auto)]
+
 mod adoptions;
 mod blocks;
 mod chains;

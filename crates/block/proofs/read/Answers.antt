@@ -64,6 +64,9 @@ returns-in-Next c =
     let link = c.link_at-link in
     let first = c.signature_at-slot_signature in
     let second = c.signature_at-block_signature in
-    record { answer = sym (whole_parts a.s.now a.at link.result r.orders r.slot.0 first.result second.result c.in-Next.next
-          told c.read_body-body.ensures.body link.ensures first.ensures second.ensures); block = sym (whole_block a.s.now a.at link.result r.orders r.slot.0 first.result second.result c.in-Next.next
-          told c.read_body-body.ensures.body link.ensures first.ensures second.ensures) }
+    record {
+      answer = sym (whole_parts a.s.now a.at link.result r.orders r.slot.0 first.result second.result c.in-Next.next
+          told c.read_body-body.ensures.body link.ensures first.ensures second.ensures);
+      block = sym (whole_block a.s.now a.at link.result r.orders r.slot.0 first.result second.result c.in-Next.next
+          told c.read_body-body.ensures.body link.ensures first.ensures second.ensures);
+    }

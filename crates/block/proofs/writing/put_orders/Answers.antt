@@ -29,8 +29,7 @@ put_order-place-requires c =
 pub loop-i-preserved : goal.loop-i-preserved
 loop-i-preserved c =
     let whole : length c.args.orders.list ≡ 8 = search rules in
-    let loop = c.loop-i in
-    (
+    let loop = c.loop-i in (
       omega arith,
       wrote_more c.args.orders c.requires.0 (whole) loop.i c.loop-i-test.true loop.invariant.1 c.put_order-place.ensures,
     )
