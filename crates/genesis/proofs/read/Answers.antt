@@ -28,7 +28,7 @@ returns-in-Fault-after c =
     let s = c.args.bytes.now in
     let next = c.in-Head.next in
     let fault : faulty (repeated number_at 64 s next) ≡ refuses 1 0 = sym (rw c.in-Fault-after.is at c.read_releases-read.ensures) in
-    let is = releases_fault s c.in-Head.head next (head_is) fault in
+    let is = releases_fault s c.in-Head.head next head_is fault in
     record { answer = c.refused.ensures.0 ∙ sym is; table = c.refused.ensures.1 ∙ ap table_or (sym is) }
 
 pub returns-in-Fault : goal.returns-in-Fault

@@ -23,7 +23,7 @@ loop-left-preserved c =
     let loop = c.loop-left in (
       omega arith,
       simp length-set loop.invariant.1,
-      simp length-set (one_more),
+      simp length-set one_more,
       loop.invariant.3 ∙ sets_more loop.out loop.place loop.left c.loop-left-test.true loop.invariant.0,
     )
 

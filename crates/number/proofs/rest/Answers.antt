@@ -54,7 +54,7 @@ overflow_mul-value c =
     rw c.loop-groups.invariant.1 (pow-le-pow_right {n = 128} (lit< tt) few)) in
     let group-small : get_or c.args.s.now c.loop-groups.at 0 % 128 ≤ 127 = omega arith in
     let small = scale_small in
-    omega (arith, mul-le-mul_right c.loop-groups.scale (group-small))
+    omega (arith, mul-le-mul_right c.loop-groups.scale group-small)
 
 pub overflow_add-value : goal.overflow_add-value
 overflow_add-value c =
@@ -62,7 +62,7 @@ overflow_add-value c =
     rw c.loop-groups.invariant.1 (pow-le-pow_right {n = 128} (lit< tt) few)) in
     let group-small : get_or c.args.s.now c.loop-groups.at 0 % 128 ≤ 127 = omega arith in
     let small = scale_small in
-    omega (arith, mul-le-mul_right c.loop-groups.scale (group-small))
+    omega (arith, mul-le-mul_right c.loop-groups.scale group-small)
 
 pub overflow_mul-scale : goal.overflow_mul-scale
 overflow_mul-scale c =
@@ -76,7 +76,7 @@ loop-groups-preserved c =
     let loop = c.loop-groups in (
       omega arith,
       rw (add-one, pow-suc, ← loop.invariant.1),
-      omega (arith, mul-le-mul_right loop.scale (group-small)),
+      omega (arith, mul-le-mul_right loop.scale group-small),
       loop.invariant.3
           ∙ turn_more loop.value loop.scale loop.groups _ loop.at c.loop-groups-test.true
           c.if-s-at.false c.if-group-lt128.false,

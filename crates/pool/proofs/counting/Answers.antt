@@ -23,7 +23,7 @@ offset_bounds-entries-count c =
     let whole : length c.args.pool.entries ≡ 64 = search rules in
     let loop = c.loop-i in
     let a = c.args in
-    search (rules, few, no_more_than (counts a.held) a.pool.entries c.least-most.result (whole) (few) loop.entries loop.count loop.i loop.invariant, c.loop-i-test.true)
+    search (rules, few, no_more_than (counts a.held) a.pool.entries c.least-most.result whole few loop.entries loop.count loop.i loop.invariant, c.loop-i-test.true)
 
 pub bounds-entries-count : goal.bounds-entries-count
 bounds-entries-count c =
@@ -31,7 +31,7 @@ bounds-entries-count c =
     let whole : length c.args.pool.entries ≡ 64 = search rules in
     let loop = c.loop-i in
     let a = c.args in
-    search (rules, few, no_more_than (counts a.held) a.pool.entries c.least-most.result (whole) (few) loop.entries loop.count loop.i loop.invariant, c.loop-i-test.true)
+    search (rules, few, no_more_than (counts a.held) a.pool.entries c.least-most.result whole few loop.entries loop.count loop.i loop.invariant, c.loop-i-test.true)
 
 pub overflow_add-count : goal.overflow_add-count
 overflow_add-count c =
@@ -39,7 +39,7 @@ overflow_add-count c =
     let whole : length c.args.pool.entries ≡ 64 = search rules in
     let loop = c.loop-i in
     let a = c.args in
-    search (rules, few, no_more_than (counts a.held) a.pool.entries c.least-most.result (whole) (few) loop.entries loop.count loop.i loop.invariant, c.loop-i-test.true)
+    search (rules, few, no_more_than (counts a.held) a.pool.entries c.least-most.result whole few loop.entries loop.count loop.i loop.invariant, c.loop-i-test.true)
 
 pub loop-i-preserved-then-counts : goal.loop-i-preserved-then-counts
 loop-i-preserved-then-counts c =
@@ -47,7 +47,7 @@ loop-i-preserved-then-counts c =
     let few : c.least-most.result ≤ 64 = subst (λ (m : ℕ). m ≤ 64) (sym c.least-most.ensures) (least_few c.args.pool.count) in
     let loop = c.loop-i in
     let a = c.args in
-    keeping_one (counts a.held) a.pool.entries c.least-most.result (whole) (few) loop.entries loop.count loop.i loop.invariant c.loop-i-test.true (sym c.counts.ensures ∙ c.if-counts.true)
+    keeping_one (counts a.held) a.pool.entries c.least-most.result whole few loop.entries loop.count loop.i loop.invariant c.loop-i-test.true (sym c.counts.ensures ∙ c.if-counts.true)
 
 pub loop-i-preserved : goal.loop-i-preserved
 loop-i-preserved c =
@@ -55,7 +55,7 @@ loop-i-preserved c =
     let few : c.least-most.result ≤ 64 = subst (λ (m : ℕ). m ≤ 64) (sym c.least-most.ensures) (least_few c.args.pool.count) in
     let loop = c.loop-i in
     let a = c.args in
-    keeping_on (counts a.held) a.pool.entries c.least-most.result (whole) (few) loop.entries loop.count loop.i loop.invariant c.loop-i-test.true (sym c.counts.ensures ∙ c.if-counts.false)
+    keeping_on (counts a.held) a.pool.entries c.least-most.result whole few loop.entries loop.count loop.i loop.invariant c.loop-i-test.true (sym c.counts.ensures ∙ c.if-counts.false)
 
 pub overflow_cast-result : goal.overflow_cast-result
 overflow_cast-result c =
@@ -63,4 +63,4 @@ overflow_cast-result c =
     let whole : length c.args.pool.entries ≡ 64 = search rules in
     let loop = c.loop-i in
     let a = c.args in
-    search (rules, few, no_more_than (counts a.held) a.pool.entries c.least-most.result (whole) (few) loop.entries loop.count loop.i loop.invariant, loop.invariant.inside)
+    search (rules, few, no_more_than (counts a.held) a.pool.entries c.least-most.result whole few loop.entries loop.count loop.i loop.invariant, loop.invariant.inside)

@@ -21,7 +21,7 @@ loop-i-preserved c =
     let whole : length c.args.pool.entries ≡ 64 = search rules in
     let few : c.least-most.result ≤ 64 = subst (λ (m : ℕ). m ≤ 64) (sym c.least-most.ensures) (least_few c.args.pool.count) in
     let loop = c.loop-i in
-    keeping_one any c.args.pool.entries c.least-most.result (whole) (few) loop.entries loop.i loop.i loop.invariant
+    keeping_one any c.args.pool.entries c.least-most.result whole few loop.entries loop.i loop.i loop.invariant
     c.loop-i-test.true refl
 
 pub returns : goal.returns
@@ -32,6 +32,6 @@ returns c =
     let a = c.args in
     let over : c.least-most.result ≡ loop.i = omega (arith, loop.invariant.inside, c.loop-i-test.false) in
     rw over
-    (keeping_all any a.pool.entries c.least-most.result (whole) (few) loop.entries loop.i loop.i loop.invariant a.pool refl
+    (keeping_all any a.pool.entries c.least-most.result whole few loop.entries loop.i loop.i loop.invariant a.pool refl
     c.least-most.ensures c.loop-i-test.false
     ∙ ap pool_of (those_all (entries_in a.pool)))

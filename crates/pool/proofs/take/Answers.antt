@@ -16,7 +16,7 @@ loop-i-init c =
     let whole : length c.args.pool.entries ≡ 64 = search rules in
     let few : c.least-most.result ≤ 64 = subst (λ (m : ℕ). m ≤ 64) (sym c.least-most.ensures) (least_few c.args.pool.count) in
     let a = c.args in
-    rw c.none.ensures (took_none a.limit a.releases a.pool.entries c.least-most.result (whole) (few))
+    rw c.none.ensures (took_none a.limit a.releases a.pool.entries c.least-most.result whole few)
 
 pub loop-i-preserved-then-take : goal.loop-i-preserved-then-take
 loop-i-preserved-then-take c =
@@ -27,7 +27,7 @@ loop-i-preserved-then-take c =
     let order = (get_or a.pool.entries loop.i no_entry).order in
     let good : valid loop.releases order ≡ true = sym c.take.ensures.value ∙ c.if-take.true in
     let after : c.take.new.releases ≡ applied loop.releases order = c.take.ensures.releases_after ∙ rw good in
-    rw after (took_one a.limit a.releases a.pool.entries c.least-most.result (whole) (few) loop.releases loop.orders loop.count loop.i loop.invariant c.loop-i-test.true c.if-count-limit.true good)
+    rw after (took_one a.limit a.releases a.pool.entries c.least-most.result whole few loop.releases loop.orders loop.count loop.i loop.invariant c.loop-i-test.true c.if-count-limit.true good)
 
 pub loop-i-preserved-else-take : goal.loop-i-preserved-else-take
 loop-i-preserved-else-take c =
@@ -38,7 +38,7 @@ loop-i-preserved-else-take c =
     let order = (get_or a.pool.entries loop.i no_entry).order in
     let bad : valid loop.releases order ≡ false = sym c.take.ensures.value ∙ c.if-take.false in
     let after : c.take.new.releases ≡ loop.releases = c.take.ensures.releases_after ∙ rw bad in
-    rw after (took_on a.limit a.releases a.pool.entries c.least-most.result (whole) (few) loop.releases loop.orders loop.count loop.i loop.invariant c.loop-i-test.true bad)
+    rw after (took_on a.limit a.releases a.pool.entries c.least-most.result whole few loop.releases loop.orders loop.count loop.i loop.invariant c.loop-i-test.true bad)
 
 pub loop-i-preserved : goal.loop-i-preserved
 loop-i-preserved c =
@@ -46,7 +46,7 @@ loop-i-preserved c =
     let few : c.least-most.result ≤ 64 = subst (λ (m : ℕ). m ≤ 64) (sym c.least-most.ensures) (least_few c.args.pool.count) in
     let loop = c.loop-i in
     let a = c.args in
-    took_full a.limit a.releases a.pool.entries c.least-most.result (whole) (few) loop.releases loop.orders loop.count loop.i loop.invariant c.loop-i-test.true c.if-count-limit.false
+    took_full a.limit a.releases a.pool.entries c.least-most.result whole few loop.releases loop.orders loop.count loop.i loop.invariant c.loop-i-test.true c.if-count-limit.false
 
 pub returns : goal.returns
 returns c =
@@ -54,4 +54,4 @@ returns c =
     let few : c.least-most.result ≤ 64 = subst (λ (m : ℕ). m ≤ 64) (sym c.least-most.ensures) (least_few c.args.pool.count) in
     let loop = c.loop-i in
     let a = c.args in
-    took_all a.limit a.releases a.pool.entries c.least-most.result (whole) (few) loop.releases loop.orders loop.count loop.i loop.invariant a.pool refl c.least-most.ensures c.loop-i-test.false
+    took_all a.limit a.releases a.pool.entries c.least-most.result whole few loop.releases loop.orders loop.count loop.i loop.invariant a.pool refl c.least-most.ensures c.loop-i-test.false

@@ -26,7 +26,7 @@ pub slice_bounds-put-end : goal.slice_bounds-put-end
 slice_bounds-put-end c =
     let within : c.put_text-length.result ≤ length c.put_text-length.new.out = (let wrote = c.put_text-length.ensures in
     omega (arith, wrote.place, (text_room (told_asked c.answered.result)).enough, wrote_length wrote)) in
-    sym (length-take-le _ _ (within))
+    sym (length-take-le _ _ within)
 
 pub returns : goal.returns
 returns c =

@@ -19,9 +19,9 @@ cut s digest at size short =
 pub returns-then-s-lt32 : goal.returns-then-s-lt32
 returns-then-s-lt32 c =
     let digest-size : length c.args.digest ≡ 32 = search rules in
-    sym (cut c.args.s.now c.args.digest c.args.at (digest-size) (omega (arith, c.if-s-lt32.true)))
+    sym (cut c.args.s.now c.args.digest c.args.at digest-size (omega (arith, c.if-s-lt32.true)))
 
 pub returns-then-s-at : goal.returns-then-s-at
 returns-then-s-at c =
     let digest-size : length c.args.digest ≡ 32 = search rules in
-    sym (cut c.args.s.now c.args.digest c.args.at (digest-size) (omega (arith, c.if-s-lt32.false, c.if-s-at.true)))
+    sym (cut c.args.s.now c.args.digest c.args.at digest-size (omega (arith, c.if-s-lt32.false, c.if-s-at.true)))

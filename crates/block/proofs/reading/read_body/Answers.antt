@@ -46,7 +46,7 @@ returns-in-Refused c =
     let room : leb (c.args.at + 32) (length c.args.s.now) ≡ true = sym c.fits.ensures ∙ c.if-not-fits.false in
     let a = c.args in
     let told = sym (rw c.in-Refused.is at c.read_orders-read.ensures.answer) in
-    let is : body_at a.s.now a.at ≡ refuses c.in-Refused.number 0 = body_is a.s.now a.at ∙ simp (room) (rw told) in
+    let is : body_at a.s.now a.at ≡ refuses c.in-Refused.number 0 = body_is a.s.now a.at ∙ simp room (rw told) in
     record { answer = c.refused_body-in-Refused.ensures.0 ∙ sym is; body = c.refused_body-in-Refused.ensures.1 ∙ ap body_or (sym is) }
 
 pub returns-in-Next : goal.returns-in-Next
@@ -58,5 +58,5 @@ returns-in-Next c =
     let next = c.in-Next.at in
     let told : orders_at s (a.at + 32) ≡ found (unlisted orders) next = sym (rw c.in-Next.is at c.read_orders-read.ensures.answer) in
     let list : orders ≡ listed (unlisted orders) = c.read_orders-read.ensures.orders ∙ ap orders_of told in
-    let is : body_at s a.at ≡ stamp_at s (unlisted orders) next = body_is s a.at ∙ simp (room) (rw told) in
+    let is : body_at s a.at ≡ stamp_at s (unlisted orders) next = body_is s a.at ∙ simp room (rw told) in
     record { answer = c.read_stamp.ensures.result_value ∙ sym is; body = c.read_stamp.ensures.result_value_2 ∙ same_parts orders (unlisted orders) s next list ∙ ap body_or (sym is) }

@@ -21,6 +21,6 @@ loop-i-preserved c =
     let i = c.loop-i.i in
     let one = c.order_length-size.ensures in (
       omega arith,
-      omega (arith, c.loop-i.invariant.1, one.0, begun_size c.args.orders c.requires (whole) i c.loop-i-test.true),
+      omega (arith, c.loop-i.invariant.1, one.0, begun_size c.args.orders c.requires whole i c.loop-i-test.true),
       omega (arith, one.1),
     )

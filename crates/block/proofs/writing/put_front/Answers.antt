@@ -32,14 +32,14 @@ front_pieces f = refl
 pub put_bytes-orders-requires : goal.put_bytes-orders-requires
 put_bytes-orders-requires c =
     let room : Room c.args.out.now c.args.at (c.args.front.link ++ behind_link_law c.args.front) = room_same (front_pieces c.args.front) c.requires.1 in
-    room_first c.args.front.link (behind_link_law c.args.front) (room)
+    room_first c.args.front.link (behind_link_law c.args.front) room
 
 pub put_orders-slot-requires : goal.put_orders-slot-requires
 put_orders-slot-requires c =
     let room : Room c.args.out.now c.args.at (c.args.front.link ++ behind_link_law c.args.front) = room_same (front_pieces c.args.front) c.requires.1 in
     let f = c.args.front in
     let (few, ranged, _) = range_parts f.orders f.slot.0 c.requires.0 in
-    (few, ranged, room_first (orders f) (behind_orders f) (room_then f.link (behind_link_law f) c.put_bytes-orders.ensures (room)))
+    (few, ranged, room_first (orders f) (behind_orders f) (room_then f.link (behind_link_law f) c.put_bytes-orders.ensures room))
 
 pub put_number-end-requires : goal.put_number-end-requires
 put_number-end-requires c =
@@ -49,7 +49,7 @@ put_number-end-requires c =
       omega arith,
       room_first (written f.slot.0) f.slot_signature
           (room_then (orders f) (behind_orders f) c.put_orders-slot.ensures
-          (room_then f.link (behind_link_law f) c.put_bytes-orders.ensures (room))),
+          (room_then f.link (behind_link_law f) c.put_bytes-orders.ensures room)),
     )
 
 pub put_bytes-requires : goal.put_bytes-requires
@@ -58,7 +58,7 @@ put_bytes-requires c =
     let f = c.args.front in
     room_then (written f.slot.0) f.slot_signature c.put_number-end.ensures
     (room_then (orders f) (behind_orders f) c.put_orders-slot.ensures
-    (room_then f.link (behind_link_law f) c.put_bytes-orders.ensures (room)))
+    (room_then f.link (behind_link_law f) c.put_bytes-orders.ensures room))
 
 pub returns : goal.returns
 returns c =

@@ -19,9 +19,9 @@ returns-then-not-fits c =
     let fine : front_fits c.args.block.front ≡ true = sym c.in_range.ensures ∙ c.if-not-in_range.false in
     let whole : length c.args.block.block_signature ≡ 64 = search rules in
     let a = c.args in
-    let done = judged_short (front_fits a.block.front) 5 a.out.now a.at (block_bytes (parts_in a.block)) (fine)
+    let done = judged_short (front_fits a.block.front) 5 a.out.now a.at (block_bytes (parts_in a.block)) fine
     (too_little a.out.now a.at (c.front_length.result + 64) (block_bytes (parts_in a.block))
-    (block_size a.block (whole) _ c.front_length.ensures.0)
+    (block_size a.block whole _ c.front_length.ensures.0)
     (sym c.fits.ensures ∙ c.if-not-fits.true)) in
     record { answer = done.0; buffer = done.1 }
 
@@ -32,11 +32,11 @@ returns c =
     let a = c.args in
     room_same (block_pieces a.block)
     (enough_room a.out.now a.at (c.front_length.result + 64) (block_bytes (parts_in a.block))
-    (block_size a.block (whole) _ c.front_length.ensures.0)
+    (block_size a.block whole _ c.front_length.ensures.0)
     (sym c.fits.ensures ∙ c.if-not-fits.false))) in
     let a = c.args in
-    let done = judged_wrote (front_fits a.block.front) 5 a.out.now a.at (block_bytes (parts_in a.block)) _ _ (fine)
-    (room_same (sym (block_pieces a.block)) (room))
+    let done = judged_wrote (front_fits a.block.front) 5 a.out.now a.at (block_bytes (parts_in a.block)) _ _ fine
+    (room_same (sym (block_pieces a.block)) room)
     (wrote_same (sym (block_pieces a.block))
     (wrote_then (front_of a.block.front) a.block.block_signature c.put_front-next.ensures c.put_bytes.ensures)) in
     record { answer = done.0; buffer = done.1 }

@@ -24,7 +24,7 @@ loop-whole-smaller-then-more_slots_ago c =
     let good : let a = c.args in let loop = c.loop-whole in judged (way_of a.way a.verdicts.now) a.opened.clock.0 a.chain.now loop.whole ≡ gives c.judge-judging.result.after = sym (rw c.in-Good.is at c.judge-judging.ensures) in
     let loop = c.loop-whole in
     let a = c.args in
-    kept_less a.opened (way_of a.way a.verdicts.now) a.chain.now loop.whole loop.settled loop.invariant c.loop-whole-test.true c.judge-judging.result.after (good)
+    kept_less a.opened (way_of a.way a.verdicts.now) a.chain.now loop.whole loop.settled loop.invariant c.loop-whole-test.true c.judge-judging.result.after good
 
 pub loop-whole-preserved-then-more_slots_ago : goal.loop-whole-preserved-then-more_slots_ago
 loop-whole-preserved-then-more_slots_ago c =
@@ -33,14 +33,14 @@ loop-whole-preserved-then-more_slots_ago c =
     let a = c.args in
     let after = c.judge-judging.result.after in
     let is : settles a.opened after.stamp.0 ≡ true = sym (rw c.depth-depth.ensures at c.more_slots_ago.ensures) ∙ c.if-more_slots_ago.true in
-    kept_next a.opened (way_of a.way a.verdicts.now) a.chain.now loop.whole loop.settled loop.invariant c.loop-whole-test.true after (good) _ (rw is)
+    kept_next a.opened (way_of a.way a.verdicts.now) a.chain.now loop.whole loop.settled loop.invariant c.loop-whole-test.true after good _ (rw is)
 
 pub loop-whole-smaller : goal.loop-whole-smaller
 loop-whole-smaller c =
     let good : let a = c.args in let loop = c.loop-whole in judged (way_of a.way a.verdicts.now) a.opened.clock.0 a.chain.now loop.whole ≡ gives c.judge-judging.result.after = sym (rw c.in-Good.is at c.judge-judging.ensures) in
     let loop = c.loop-whole in
     let a = c.args in
-    kept_less a.opened (way_of a.way a.verdicts.now) a.chain.now loop.whole loop.settled loop.invariant c.loop-whole-test.true c.judge-judging.result.after (good)
+    kept_less a.opened (way_of a.way a.verdicts.now) a.chain.now loop.whole loop.settled loop.invariant c.loop-whole-test.true c.judge-judging.result.after good
 
 pub loop-whole-preserved : goal.loop-whole-preserved
 loop-whole-preserved c =
@@ -49,7 +49,7 @@ loop-whole-preserved c =
     let a = c.args in
     let after = c.judge-judging.result.after in
     let is : settles a.opened after.stamp.0 ≡ false = sym (rw c.depth-depth.ensures at c.more_slots_ago.ensures) ∙ c.if-more_slots_ago.false in
-    kept_next a.opened (way_of a.way a.verdicts.now) a.chain.now loop.whole loop.settled loop.invariant c.loop-whole-test.true after (good) _ (rw is)
+    kept_next a.opened (way_of a.way a.verdicts.now) a.chain.now loop.whole loop.settled loop.invariant c.loop-whole-test.true after good _ (rw is)
 
 pub returns : goal.returns
 returns c =

@@ -59,5 +59,5 @@ returns c =
     let loop = c.loop-j in
     let all : loop.j ≡ 255 = omega arith in
     let same : take 22 c.put.new.out ≡ c.args.front =
-    begins_part 55 c.args.front 22 (sym (front_long)) (begun) in
+    begins_part 55 c.args.front 22 (sym front_long) begun in
     loop.invariant.5 ∙ rw (all, same)

@@ -12,6 +12,6 @@ pub returns-in-Good : goal.returns-in-Good
 returns-in-Good c =
     let report-is : text_of (told_asked c.args.asked) ≡ first_line c.args.asked.clock.0 c.args.asked.report.held.0 c.args.asked.report.settled.0 ++ display_lines c.args.asked.report.releases 64 = rw c.in-Good.is in
     let a = c.args.asked in
-    wrote_same (sym (report-is))
+    wrote_same (sym report-is)
     (wrote_then (first_line a.clock.0 a.report.held.0 a.report.settled.0) (display_lines a.report.releases 64) c.put_first-next.ensures
     c.put_displays.ensures)
