@@ -2,10 +2,10 @@
 // written, and what each letter of the output means.
 #![tactic(auto)]
 
-ghost use Rattle.std.specs.Prelude.{◌≤◌};
+ghost use Rattle.std.specs.Prelude.{◌≤◌, length};
 
-use libc::{STDIN_FILENO, STDOUT_FILENO};
 use lms::Verified;
+use std::io::Read;
 
 const ROOM: usize = 16384;
 
@@ -15,36 +15,50 @@ const PLACES: [usize; 25] = [
     1316, 1347, 1348,
 ];
 
-fn main() {
+fn main(rt: HostRuntime) {
     let mut text = [0u8; ROOM];
-    let count = io::read_full(STDIN_FILENO, &mut text);
-    lines(&text[0..count]);
+    let count = read_full(&mut rt.stdin(), &mut text);
+    lines(&rt, &text[0..count]);
 }
 
-fn print(text: &[u8]) {
-    io::write_all(STDOUT_FILENO, text);
+// Reads until the buffer is full, the input ends or a read fails, and answers how many bytes there are.
+fn read_full(input: &mut impl Read, buf: &mut [u8]) -> usize
+    ensures { result ≤ length buf.new }
+{
+    let mut done = 0;
+    while done < buf.len() {
+        let more = input.read(&mut buf[done..]).unwrap_or(0);
+        if more == 0 {
+            break;
+        }
+        done += more;
+    }
+    done
 }
 
-fn lines(text: &[u8]) {
+// A write that fails is let go: what it was to print is then missing.
+fn print(rt: &impl Print, text: &[u8]) {
+    let _ = rt.write_all(text);
+}
+
+fn lines(rt: &impl Print, text: &[u8]) {
     let mut from = 0;
-    let mut i = 0;
-    while i < text.len() {
+    for i in 0..text.len() {
         if text[i] == b'\n' {
-            line(&text[from..i]);
+            line(rt, &text[from..i]);
             from = i + 1;
         }
-        i += 1;
     }
 }
 
 // A comment is printed as it stands.
-fn line(text: &[u8]) {
+fn line(rt: &impl Print, text: &[u8]) {
     if byte_at(text, 0) == b'#' {
-        print(text);
+        print(rt, text);
     } else {
-        case(text);
+        case(rt, text);
     }
-    print(b"\n");
+    print(rt, b"\n");
 }
 
 fn byte_at(s: &[u8], at: usize) -> u8 {
@@ -52,42 +66,40 @@ fn byte_at(s: &[u8], at: usize) -> u8 {
 }
 
 // The digits of a key, of a signature and of a message, with a space between them.
-fn case(line: &[u8]) {
+fn case(rt: &impl Print, line: &[u8]) {
     if line.len() < 2700 {
-        print(b"bad line");
+        print(rt, b"bad line");
         return;
     }
     let size = 1348 + (line.len() - 2698) / 2;
     if 1604 < size {
-        print(b"bad line");
+        print(rt, b"bad line");
         return;
     }
     let mut bytes = [0u8; 1604];
     decode(&line[0..112], &mut bytes, 0);
     decode(&line[113..2697], &mut bytes, 56);
     decode(&line[2698..], &mut bytes, 1348);
-    tried(&mut bytes[0..size]);
+    tried(rt, &mut bytes[0..size]);
 }
 
-fn tried(bytes: &mut [u8]) {
-    verify_cut(&*bytes, 56, 1348, 1348);
-    each_changed(bytes);
-    print(b" ");
-    other_lengths(&*bytes);
-    long_messages(&*bytes);
+fn tried(rt: &impl Print, bytes: &mut [u8]) {
+    verify_cut(rt, &*bytes, 56, 1348, 1348);
+    each_changed(rt, bytes);
+    print(rt, b" ");
+    other_lengths(rt, &*bytes);
+    long_messages(rt, &*bytes);
 }
 
 // Puts the bytes that hexadecimal digits stand for at a place of a buffer, as far as it goes.
 fn decode(digits: &[u8], out: &mut [u8], at: usize) {
-    let mut i = 0;
-    while i < digits.len() / 2 {
+    for i in 0..digits.len() / 2 {
         put(
             out,
             at,
             i,
             nibble(digits[2 * i]) * 16 + nibble(digits[2 * i + 1]),
         );
-        i += 1;
     }
 }
 
@@ -110,17 +122,17 @@ fn nibble(digit: u8) -> u8
     }
 }
 
-fn verify(key: &[u8], signature: &[u8], message: &[u8]) {
+fn verify(rt: &impl Print, key: &[u8], signature: &[u8], message: &[u8]) {
     match lms::verify(key, signature, message) {
-        Verified::Valid => print(b"v"),
-        Verified::TooLong => print(b"l"),
-        Verified::Malformed => print(b"m"),
-        Verified::Invalid => print(b"i"),
+        Verified::Valid => print(rt, b"v"),
+        Verified::TooLong => print(rt, b"l"),
+        Verified::Malformed => print(rt, b"m"),
+        Verified::Invalid => print(rt, b"i"),
     }
 }
 
 // A key, a signature and a message that stand one behind the other, the key and the signature up to a place and the message from a place on.
-fn verify_cut(bytes: &[u8], key_end: usize, signature_end: usize, message: usize) {
+fn verify_cut(rt: &impl Print, bytes: &[u8], key_end: usize, signature_end: usize, message: usize) {
     if bytes.len() < key_end {
         return;
     }
@@ -134,34 +146,33 @@ fn verify_cut(bytes: &[u8], key_end: usize, signature_end: usize, message: usize
         return;
     }
     verify(
+        rt,
         &bytes[0..key_end],
         &bytes[56..signature_end],
         &bytes[message..],
     );
 }
 
-fn each_changed(bytes: &mut [u8]) {
-    let mut i = 0;
-    while i < 25 {
+fn each_changed(rt: &impl Print, bytes: &mut [u8]) {
+    for i in 0..25 {
         if i == 0 || i == 8 || i == 24 {
-            print(b" ");
+            print(rt, b" ");
         }
-        changed(bytes, PLACES[i]);
-        i += 1;
+        changed(rt, bytes, PLACES[i]);
     }
     if 0 < bytes.len() {
-        changed(bytes, bytes.len() - 1);
+        changed(rt, bytes, bytes.len() - 1);
     }
 }
 
 // One byte counted on by one, and back.
-fn changed(bytes: &mut [u8], at: usize) {
+fn changed(rt: &impl Print, bytes: &mut [u8], at: usize) {
     if bytes.len() <= at {
         return;
     }
     let byte = bytes[at];
     bytes[at] = next(byte);
-    verify_cut(&*bytes, 56, 1348, 1348);
+    verify_cut(rt, &*bytes, 56, 1348, 1348);
     bytes[at] = byte;
 }
 
@@ -170,21 +181,21 @@ fn next(byte: u8) -> u8 {
 }
 
 // A byte less or more: of the key, of the signature and of the message.
-fn other_lengths(bytes: &[u8]) {
-    verify_cut(bytes, 55, 1348, 1348);
-    verify_cut(bytes, 57, 1348, 1348);
-    verify_cut(bytes, 56, 1347, 1348);
-    verify_cut(bytes, 56, 1349, 1348);
-    verify_cut(bytes, 56, 1348, 1349);
-    verify_cut(bytes, 56, 1348, 1347);
+fn other_lengths(rt: &impl Print, bytes: &[u8]) {
+    verify_cut(rt, bytes, 55, 1348, 1348);
+    verify_cut(rt, bytes, 57, 1348, 1348);
+    verify_cut(rt, bytes, 56, 1347, 1348);
+    verify_cut(rt, bytes, 56, 1349, 1348);
+    verify_cut(rt, bytes, 56, 1348, 1349);
+    verify_cut(rt, bytes, 56, 1348, 1347);
 }
 
 // The longest message that is taken, and one that is longer.
-fn long_messages(bytes: &[u8]) {
+fn long_messages(rt: &impl Print, bytes: &[u8]) {
     if bytes.len() < 1348 {
         return;
     }
     let message = [0u8; 257];
-    verify(&bytes[0..56], &bytes[56..1348], &message[0..256]);
-    verify(&bytes[0..56], &bytes[56..1348], &message);
+    verify(rt, &bytes[0..56], &bytes[56..1348], &message[0..256]);
+    verify(rt, &bytes[0..56], &bytes[56..1348], &message);
 }

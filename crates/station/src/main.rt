@@ -5,7 +5,7 @@
 ghost use Rattle.std.specs.Prelude.{◌≤◌, ◌≡◌, length};
 ghost use Rattle.station.specs.Input.{size_of};
 
-use libc::{STDERR_FILENO, STDIN_FILENO, STDOUT_FILENO};
+use std::io::Read;
 
 // The longest genesis length and the longest now are 5 bytes each, the longest genesis 1,315. Of the chain 64,257 bytes are read, so that one that is
 // too long is seen to be: what follows these bytes changes nothing (`cut_input` of `printed`).
@@ -19,17 +19,15 @@ enum Input {
 }
 
 // Reads to the end of the input, or until the buffer is full.
-fn read_whole(buf: &mut [u8]) -> Input
+fn read_whole(input: &mut impl Read, buf: &mut [u8]) -> Input
     ensures result_in_bounds { size_of result ≤ length buf.new }
     ensures buf_len_unchanged { length buf.new ≡ length buf.old }
 {
     let mut done = 0;
     while done < buf.len() {
-        let got = libc::read(STDIN_FILENO, &mut buf[done..]);
-        if got < 0 {
+        let Ok(more) = input.read(&mut buf[done..]) else {
             return Input::Failed;
-        }
-        let more = io::count(got, &buf[done..]);
+        };
         if more == 0 {
             return Input::Whole(done);
         }
@@ -38,18 +36,15 @@ fn read_whole(buf: &mut [u8]) -> Input
     Input::Whole(done)
 }
 
-fn main() {
+fn main(rt: HostRuntime) {
     let mut input = [0u8; ROOM];
-    let Input::Whole(size) = read_whole(&mut input) else {
-        io::write_all(
-            STDERR_FILENO,
-            b"station: the input could not be read to its end\n",
-        );
+    let Input::Whole(size) = read_whole(&mut rt.stdin(), &mut input) else {
+        let _ = eprintln!(rt; "station: the input could not be read to its end");
         return;
     };
     let mut out = [0u8; printed::LONGEST_TEXT];
     let end = buffer::after(printed::station(&input[..size], &mut out), 0);
-    if !io::write_all(STDOUT_FILENO, &out[..end]) {
-        io::write_all(STDERR_FILENO, b"station: the report could not be written\n");
+    if rt.write_all(&out[..end]).is_err() {
+        let _ = eprintln!(rt; "station: the report could not be written");
     }
 }

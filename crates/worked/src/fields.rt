@@ -23,12 +23,10 @@ pub fn same(a: &[u8], b: &[u8]) -> bool {
     if a.len() != b.len() {
         return false;
     }
-    let mut i = 0;
-    while i < a.len() {
+    for i in 0..a.len() {
         if a[i] != byte_at(b, i) {
             return false;
         }
-        i += 1;
     }
     true
 }
@@ -46,17 +44,15 @@ pub fn field(line: &[u8], spaces: usize) -> &[u8] {
 
 fn after_spaces(line: &[u8], spaces: usize) -> usize {
     let mut left = spaces;
-    let mut i = 0;
-    while i < line.len() {
+    for i in 0..line.len() {
         if left == 0 {
             return i;
         }
         if line[i] == b' ' {
             left -= 1;
         }
-        i += 1;
     }
-    i
+    line.len()
 }
 
 fn space_from(line: &[u8], from: usize) -> usize {
@@ -72,8 +68,7 @@ fn space_from(line: &[u8], from: usize) -> usize {
 
 // Whether so many fields follow the op, none of them empty, all of characters that a field may have.
 pub fn readable(line: &[u8], least: usize) -> bool {
-    let mut i = space_from(line, 0);
-    while i < line.len() {
+    for i in space_from(line, 0)..line.len() {
         if line[i] == b' ' {
             if !stands_in_field(byte_at(line, i + 1)) {
                 return false;
@@ -81,7 +76,6 @@ pub fn readable(line: &[u8], least: usize) -> bool {
         } else if !stands_in_field(line[i]) {
             return false;
         }
-        i += 1;
     }
     0 < field(line, least).len()
 }
@@ -123,10 +117,8 @@ pub fn slot(line: &[u8], spaces: usize) -> Slot {
 
 fn decimal(text: &[u8]) -> u64 {
     let mut value = 0;
-    let mut i = 0;
-    while i < text.len() {
-        value = with_digit(value, text[i]);
-        i += 1;
+    for digit in text {
+        value = with_digit(value, *digit);
     }
     value
 }
@@ -136,7 +128,7 @@ fn with_digit(value: u64, digit: u8) -> u64 {
     if 1844674407370955161 < value {
         return value;
     }
-    std::num::wrapping_add_u64(value * 10, nibble(digit) as u64)
+    (value * 10).wrapping_add(nibble(digit) as u64)
 }
 
 fn nibble(digit: u8) -> u8
@@ -167,11 +159,9 @@ pub fn buffer<'a>(line: &[u8], spaces: usize, out: &'a mut [u8]) -> &'a mut [u8]
 pub fn strings(line: &[u8], out: &mut [u8]) -> [usize; 8] {
     let mut ends = [0usize; 8];
     let mut at = 0;
-    let mut i = 1;
-    while i < 8 {
+    for i in 1..8 {
         at = pieces(field(line, i), out, at);
         ends[i] = at;
-        i += 1;
     }
     ends
 }
@@ -190,15 +180,13 @@ pub fn string<'a>(bytes: &'a [u8], ends: &[usize; 8], spaces: usize) -> &'a [u8]
 fn pieces(text: &[u8], out: &mut [u8], at: usize) -> usize {
     let mut place = at;
     let mut start = 0;
-    let mut i = 0;
-    while i < text.len() {
+    for i in 0..text.len() {
         if text[i] == b'+' {
             place = piece(part(text, start, i), out, place);
             start = i + 1;
         }
-        i += 1;
     }
-    piece(part(text, start, i), out, place)
+    piece(part(text, start, text.len()), out, place)
 }
 
 // A piece is a byte and how often it stands, as `00*64`, or bytes one after another.
@@ -212,24 +200,20 @@ fn piece(text: &[u8], out: &mut [u8], at: usize) -> usize {
 
 fn fill(out: &mut [u8], at: usize, byte: u8, times: u64) -> usize {
     let mut place = at;
-    let mut i = 0;
-    while i < times {
+    for _ in 0..times {
         place = put(out, place, byte);
-        i += 1;
     }
     place
 }
 
 fn pairs(text: &[u8], out: &mut [u8], at: usize) -> usize {
     let mut place = at;
-    let mut i = 0;
-    while i < text.len() / 2 {
+    for i in 0..text.len() / 2 {
         place = put(
             out,
             place,
             hex_byte(byte_at(text, 2 * i), byte_at(text, 2 * i + 1)),
         );
-        i += 1;
     }
     place
 }

@@ -3,23 +3,23 @@ use crate::{fields, print};
 use order::{Order, Release};
 
 // valid DISPLAY RELEASE EXPECTED NEW
-pub fn valid(line: &[u8]) {
+pub fn valid(rt: &impl Print, line: &[u8]) {
     let releases = releases(line);
-    verdict(order::valid(&releases, ordered(line)));
+    verdict(rt, order::valid(&releases, ordered(line)));
 }
 
 // take DISPLAY RELEASE EXPECTED NEW: the verdict, and the releases afterwards.
-pub fn take(line: &[u8]) {
+pub fn take(rt: &impl Print, line: &[u8]) {
     let mut releases = releases(line);
-    verdict(order::take(&mut releases, ordered(line)));
-    print::releases(&releases);
+    verdict(rt, order::take(&mut releases, ordered(line)));
+    print::releases(rt, &releases);
 }
 
-fn verdict(valid: bool) {
+fn verdict(rt: &impl Print, valid: bool) {
     if valid {
-        print::text(b"valid");
+        print::text(rt, b"valid");
     } else {
-        print::text(b"not valid");
+        print::text(rt, b"not valid");
     }
 }
 

@@ -8,36 +8,42 @@ use order::{Order, Slot};
 use pool::{Entry, Pool, Pooled};
 
 // drop GENESIS NOW HELD LENGTH COUNT DISPLAY EXPECTED NEW SLOT DEPOT ..
-pub fn drop(line: &[u8], bytes: &[u8], ends: &[usize; 8]) {
-    print_pooled(pool::drop(
-        string(bytes, ends, 1),
-        fields::slot(line, 2),
-        string(bytes, ends, 3),
-        fields::place(line, 4),
-        pool_of(fields::tail(line, 5)),
-    ));
+pub fn drop(rt: &impl Print, line: &[u8], bytes: &[u8], ends: &[usize; 8]) {
+    print_pooled(
+        rt,
+        pool::drop(
+            string(bytes, ends, 1),
+            fields::slot(line, 2),
+            string(bytes, ends, 3),
+            fields::place(line, 4),
+            pool_of(fields::tail(line, 5)),
+        ),
+    );
 }
 
 // add GENESIS NOW HELD LENGTH DISPLAY EXPECTED NEW DEPOT COUNT DISPLAY EXPECTED NEW SLOT DEPOT ..
-pub fn add(line: &[u8], bytes: &[u8], ends: &[usize; 8]) {
-    print_pooled(pool::add(
-        string(bytes, ends, 1),
-        fields::slot(line, 2),
-        string(bytes, ends, 3),
-        fields::place(line, 4),
-        pool_of(fields::tail(line, 9)),
-        order_of(fields::tail(line, 5)),
-        fields::number(line, 8),
-    ));
+pub fn add(rt: &impl Print, line: &[u8], bytes: &[u8], ends: &[usize; 8]) {
+    print_pooled(
+        rt,
+        pool::add(
+            string(bytes, ends, 1),
+            fields::slot(line, 2),
+            string(bytes, ends, 3),
+            fields::place(line, 4),
+            pool_of(fields::tail(line, 9)),
+            order_of(fields::tail(line, 5)),
+            fields::number(line, 8),
+        ),
+    );
 }
 
-fn print_pooled(pooled: Pooled) {
+fn print_pooled(rt: &impl Print, pooled: Pooled) {
     let answer = pooled.answer;
     let pool = pooled.pool;
-    if !print::good(answer) {
-        print::text(b" ");
+    if !print::good(rt, answer) {
+        print::text(rt, b" ");
     }
-    print_pool(pool);
+    print_pool(rt, pool);
 }
 
 // A count, and five numbers for each of the listed entries, of which there may be more or fewer.
@@ -52,10 +58,8 @@ pub fn pool_of(fields: &[u8]) -> Pool {
         depot: 0,
     };
     let mut list = [none; 64];
-    let mut i = 0;
-    while i < 64 {
+    for i in 0..64 {
         list[i] = entry_of(fields::tail(fields, 5 * i + 1));
-        i += 1;
     }
     Pool {
         count: fields::number(fields, 0),
@@ -72,24 +76,22 @@ fn entry_of(fields: &[u8]) -> Entry {
     }
 }
 
-fn print_pool(pool: Pool) {
-    print::value(b"pool #", pool.count as u64);
+fn print_pool(rt: &impl Print, pool: Pool) {
+    print::value(rt, b"pool #", pool.count as u64);
     let list = pool.entries;
-    let mut i = 0;
-    while i < 64 {
+    for i in 0..64 {
         let entry = list[i];
-        print_at(i, pool.count, entry);
-        i += 1;
+        print_at(rt, i, pool.count, entry);
     }
 }
 
 // An entry within the count; one past it only if it is not of zeros, and then with its place.
-fn print_at(place: usize, count: u32, entry: Entry) {
+fn print_at(rt: &impl Print, place: usize, count: u32, entry: Entry) {
     if place < count as usize {
-        print_entry(entry);
+        print_entry(rt, entry);
     } else if !is_none(entry) {
-        print::value(b" past #", place as u64);
-        print_entry(entry);
+        print::value(rt, b" past #", place as u64);
+        print_entry(rt, entry);
     }
 }
 
@@ -110,7 +112,7 @@ fn is_none(entry: Entry) -> bool {
     entry.slot.0 == 0
 }
 
-fn print_entry(entry: Entry) {
-    print_order(entry.order);
-    print::numbers(b" # #", &[entry.slot.0 as u64, entry.depot as u64]);
+fn print_entry(rt: &impl Print, entry: Entry) {
+    print_order(rt, entry.order);
+    print::numbers(rt, b" # #", &[entry.slot.0 as u64, entry.depot as u64]);
 }

@@ -1,83 +1,78 @@
-// What an answer is printed with.
+// What an answer is printed with. A write that fails is let go: what it was to print is then missing.
 ghost use Rattle.std.specs.Prelude.{◌≤◌};
 
 use crate::fields::part;
-use libc::STDOUT_FILENO;
 use order::Release;
 use refusal::Answer;
 
-pub fn text(bytes: &[u8]) {
-    io::write_all(STDOUT_FILENO, bytes);
+pub fn text(rt: &impl Print, bytes: &[u8]) {
+    let _ = rt.write_all(bytes);
 }
 
-fn decimal(value: u64) {
-    io::print_decimal(STDOUT_FILENO, value);
+fn decimal(rt: &impl Print, value: u64) {
+    let _ = print!(rt; "{value}");
 }
 
 // A text with the numbers in place of its `#`, one after another.
-pub fn numbers(form: &[u8], numbers: &[u64]) {
+pub fn numbers(rt: &impl Print, form: &[u8], numbers: &[u64]) {
     let mut next = 0;
-    let mut i = 0;
-    while i < form.len() {
+    for i in 0..form.len() {
         if form[i] != b'#' {
-            text(part(form, i, i + 1));
+            text(rt, part(form, i, i + 1));
         } else if next < numbers.len() {
-            decimal(numbers[next]);
+            decimal(rt, numbers[next]);
             next += 1;
         }
-        i += 1;
     }
 }
 
-pub fn value(form: &[u8], value: u64) {
-    numbers(form, &[value]);
+pub fn value(rt: &impl Print, form: &[u8], value: u64) {
+    numbers(rt, form, &[value]);
 }
 
 // Prints a refusal, with its place, and says whether there is none.
-pub fn good(answer: Answer) -> bool {
+pub fn good(rt: &impl Print, answer: Answer) -> bool {
     match answer {
         Answer::Good => true,
         Answer::Refused(number, place) => {
-            numbers(b"refused # #", &[number as u64, place.0 as u64]);
+            numbers(rt, b"refused # #", &[number as u64, place.0 as u64]);
             false
         }
     }
 }
 
 // A refusal with no place.
-pub fn refused(number: u32) {
-    value(b"refused # 0", number as u64);
+pub fn refused(rt: &impl Print, number: u32) {
+    value(rt, b"refused # 0", number as u64);
 }
 
 // Bytes in the form of a case's field: pieces of hexadecimal digits, where a byte that stands four times or more is written once.
-pub fn bytes(s: &[u8]) {
+pub fn bytes(rt: &impl Print, s: &[u8]) {
     if s.len() == 0 {
-        text(b"-");
+        text(rt, b"-");
     }
     let mut next = 0;
-    let mut i = 0;
-    while i < s.len() {
+    for i in 0..s.len() {
         if i == next {
-            next = piece(s, i);
+            next = piece(rt, s, i);
         }
-        i += 1;
     }
 }
 
 // Prints the piece at a place, and answers the place after it.
-fn piece(s: &[u8], at: usize) -> usize {
+fn piece(rt: &impl Print, s: &[u8], at: usize) -> usize {
     if 0 < at {
-        text(b"+");
+        text(rt, b"+");
     }
     let end = run_end(s, at);
     if end - at < 4 {
         let end = plain_end(s, at);
-        hex_bytes(part(s, at, end));
+        hex_bytes(rt, part(s, at, end));
         return end;
     }
-    hex_bytes(part(s, at, at + 1));
-    text(b"*");
-    decimal((end - at) as u64);
+    hex_bytes(rt, part(s, at, at + 1));
+    text(rt, b"*");
+    decimal(rt, (end - at) as u64);
     end
 }
 
@@ -107,29 +102,25 @@ fn plain_end(s: &[u8], at: usize) -> usize {
     i
 }
 
-fn hex_bytes(bytes: &[u8]) {
-    let mut i = 0;
-    while i < bytes.len() {
-        hex_byte(bytes[i]);
-        i += 1;
+fn hex_bytes(rt: &impl Print, bytes: &[u8]) {
+    for byte in bytes {
+        hex_byte(rt, *byte);
     }
 }
 
-fn hex_byte(byte: u8) {
-    io::print_hex(STDOUT_FILENO, byte as u64, 2);
+fn hex_byte(rt: &impl Print, byte: u8) {
+    let _ = print!(rt; "{byte:02x}");
 }
 
 // The displays whose release is not 0, each with its release.
-pub fn releases(releases: &[Release; 64]) {
-    let mut display = 0;
-    while display < 64 {
-        release(display, releases[display]);
-        display += 1;
+pub fn releases(rt: &impl Print, releases: &[Release; 64]) {
+    for display in 0..64 {
+        release(rt, display, releases[display]);
     }
 }
 
-fn release(display: usize, release: Release) {
+fn release(rt: &impl Print, display: usize, release: Release) {
     if release != 0 {
-        numbers(b" #:#", &[display as u64, release]);
+        numbers(rt, b" #:#", &[display as u64, release]);
     }
 }

@@ -5,18 +5,19 @@ use genesis::{Answer, Genesis, KEY_BYTES, KeyPlace};
 use refusal::BAD_GENESIS;
 
 // genesis BYTES
-pub fn genesis(bytes: &[u8]) {
+pub fn genesis(rt: &impl Print, bytes: &[u8]) {
     let read = genesis::read(bytes);
     let answer = read.answer;
     let table = read.table;
     match answer {
-        Answer::Read => print_table(table),
-        Answer::Refused => print::refused(BAD_GENESIS),
+        Answer::Read => print_table(rt, table),
+        Answer::Refused => print::refused(rt, BAD_GENESIS),
     }
 }
 
-fn print_table(table: Genesis) {
+fn print_table(rt: &impl Print, table: Genesis) {
     print::numbers(
+        rt,
         b"n # t # u # keys at # releases",
         &[
             table.n as u64,
@@ -26,41 +27,42 @@ fn print_table(table: Genesis) {
         ],
     );
     let releases = table.releases;
-    print::releases(&releases);
+    print::releases(rt, &releases);
 }
 
 // turn GENESIS SLOT
-pub fn turn(line: &[u8], bytes: &[u8]) {
+pub fn turn(rt: &impl Print, line: &[u8], bytes: &[u8]) {
     let read = genesis::read(bytes);
     let answer = read.answer;
     let table = read.table;
     match answer {
         Answer::Read => print::value(
+            rt,
             b"controller #",
             genesis::turn(table, fields::slot(line, 2)) as u64,
         ),
-        Answer::Refused => print::refused(BAD_GENESIS),
+        Answer::Refused => print::refused(rt, BAD_GENESIS),
     }
 }
 
 // depth GENESIS
-pub fn depth(bytes: &[u8]) {
+pub fn depth(rt: &impl Print, bytes: &[u8]) {
     let read = genesis::read(bytes);
     let answer = read.answer;
     let table = read.table;
     match answer {
-        Answer::Read => print::value(b"depth #", genesis::depth(table)),
-        Answer::Refused => print::refused(BAD_GENESIS),
+        Answer::Read => print::value(rt, b"depth #", genesis::depth(table)),
+        Answer::Refused => print::refused(rt, BAD_GENESIS),
     }
 }
 
 // key GENESIS CONTROLLER
-pub fn key(line: &[u8], bytes: &[u8]) {
+pub fn key(rt: &impl Print, line: &[u8], bytes: &[u8]) {
     match genesis::find_key(bytes, fields::number(line, 2)) {
         KeyPlace::At(at) => {
-            print::value(b"key at # ", at as u64);
-            print::bytes(part(part(bytes, at, bytes.len()), 0, KEY_BYTES));
+            print::value(rt, b"key at # ", at as u64);
+            print::bytes(rt, part(part(bytes, at, bytes.len()), 0, KEY_BYTES));
         }
-        KeyPlace::Refused(number) => print::refused(number),
+        KeyPlace::Refused(number) => print::refused(rt, number),
     }
 }

@@ -1,11 +1,11 @@
-// Blocks, their fronts and slot texts written into lent buffers: `write`, `front`, `length`, `slot_text_law`. What is printed ends with every
+// Blocks, their fronts and slot texts written into lent buffers: `write`, `front`, `length`, `slot-text`. What is printed ends with every
 // byte of the buffer, so that a byte that should have stayed is seen.
 use crate::{fields, print};
 use block::{Block, Front, Orders, Place};
 use order::Order;
 
 // write BUFFER AT LINK SLOT SLOT-SIGNATURE BLOCK-SIGNATURE COUNT DISPLAY EXPECTED NEW ..
-pub fn write(line: &[u8], space: &mut [u8]) {
+pub fn write(rt: &impl Print, line: &[u8], space: &mut [u8]) {
     let buffer = fields::buffer(line, 1, space);
     let front = front_of(line, 7);
     let block_signature = signature(line, 6);
@@ -13,37 +13,40 @@ pub fn write(line: &[u8], space: &mut [u8]) {
         front,
         block_signature,
     };
-    written(block::write(buffer, fields::place(line, 2), block));
-    print::bytes(buffer);
+    written(rt, block::write(buffer, fields::place(line, 2), block));
+    print::bytes(rt, buffer);
 }
 
 // front BUFFER AT LINK SLOT SLOT-SIGNATURE COUNT DISPLAY EXPECTED NEW ..
-pub fn front(line: &[u8], space: &mut [u8]) {
+pub fn front(rt: &impl Print, line: &[u8], space: &mut [u8]) {
     let buffer = fields::buffer(line, 1, space);
     let front = front_of(line, 6);
-    written(block::write_front(buffer, fields::place(line, 2), front));
-    print::bytes(buffer);
+    written(
+        rt,
+        block::write_front(buffer, fields::place(line, 2), front),
+    );
+    print::bytes(rt, buffer);
 }
 
-// slot_text_law SLOT BUFFER
-pub fn slot_text(line: &[u8], space: &mut [u8]) {
+// slot-text SLOT BUFFER
+pub fn slot_text(rt: &impl Print, line: &[u8], space: &mut [u8]) {
     let buffer = fields::buffer(line, 2, space);
-    written(block::slot_text(buffer, fields::slot(line, 1)));
-    print::bytes(buffer);
+    written(rt, block::slot_text(buffer, fields::slot(line, 1)));
+    print::bytes(rt, buffer);
 }
 
-fn written(place: Place) {
+fn written(rt: &impl Print, place: Place) {
     match place {
-        Place::Next(next) => print::value(b"next #", next as u64),
-        Place::Refused(number) => print::refused(number),
+        Place::Next(next) => print::value(rt, b"next #", next as u64),
+        Place::Refused(number) => print::refused(rt, number),
     }
-    print::text(b" ");
+    print::text(rt, b" ");
 }
 
 // length SLOT COUNT DISPLAY EXPECTED NEW ..
-pub fn length(line: &[u8]) {
+pub fn length(rt: &impl Print, line: &[u8]) {
     let length = block::length(orders_of(fields::tail(line, 2)), fields::slot(line, 1));
-    print::value(b"length #", length as u64);
+    print::value(rt, b"length #", length as u64);
 }
 
 // The parts that both kinds of writing take. The orders stand last, from this field on.
@@ -74,10 +77,8 @@ fn orders_of(fields: &[u8]) -> Orders {
         new: 0,
     };
     let mut list = [none; 8];
-    let mut i = 0;
-    while i < 8 {
+    for i in 0..8 {
         list[i] = order_of(fields::tail(fields, 3 * i + 1));
-        i += 1;
     }
     Orders {
         count: fields::number(fields, 0),
