@@ -1,6 +1,6 @@
 -- 01, "Check a chain" and "Refusal numbers": blocks judged one by one, and what they come to.
 -- Assumes nothing.
-use Rattle.std.specs.Prelude.{ℕ, ◌+◌, ◌-◌, Bool, List, [], ◌∷◌, ltb, leb, eqb, length, take, get_or}
+use Rattle.std.specs.Prelude.{ℕ, ◌+◌, ◌-◌, Bool, List, ltb, leb, eqb, length, take, get_or}
 use Rattle.laws.specs.Pick.{pick}
 use Rattle.laws.specs.Told.{Told, gives, refuses, Found, then, unless}
 use Rattle.laws.specs.Every.{both, same}

@@ -22,7 +22,7 @@ use Rattle.chain.specs.Blocks.{chain_bytes, Admits, Below}
 use Rattle.chain.specs.declared.Standing.{Standing}
 use Rattle.chain.specs.declared.Summary.{Summary}
 use Rattle.chain.proofs.Theorems.{blocks_that_follow_and_are_admitted_are_accepted, the_bytes_tell_the_blocks, what_is_written_of_blocks_is_bytes}
-use Rattle.pool.specs.Pool.{room, pool_of, taking}
+use Rattle.pool.specs.Pool.{pool_of, taking}
 use Rattle.pool.specs.declared.Pool.{Pool}
 use Rattle.issue.specs.Issue.{taken}
 use Rattle.runs.specs.Runs.{Node, held_bytes, delivery, after_event, issues, correct, after_slot, in_slot, issued, after_issuing}

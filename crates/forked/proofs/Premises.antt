@@ -15,7 +15,7 @@ use Rattle.chain.proofs.Theorems.{what_is_written_of_blocks_is_bytes, bytes_at_t
 use Rattle.agreement.specs.Core.{how_many}
 use Rattle.runs.proofs.Among.{among_each, nowhere, the_only}
 use Rattle.runs.specs.Runs.{Event, delivery, pooling, correct, after_slot, holds, issued, Among, Encounter, in_delivery, as_held, as_issued, InRun, OfRun, Typed, LastOf, Premises}
-use Rattle.forked.specs.Forked.{table, next, other, chain, given, verdicts, events, run}
+use Rattle.forked.specs.Forked.{table, next, chain, given, verdicts, events, run}
 use Rattle.forked.proofs.Blocks.{signed, sealed, Named, in_turn, forked, Good, chain_good, given_good}
 use Rattle.forked.proofs.Held.{reads, full, buffer_bytes, three, held_in_slot, issued_in_slot}
 use Rattle.forked.proofs.Different.{one_digest_one_block, not_the_genesis}

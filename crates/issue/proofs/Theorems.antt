@@ -10,7 +10,7 @@ use Rattle.laws.specs.Bytes.{part}
 use Rattle.laws.specs.Format.{Bytes}
 use Rattle.laws.proofs.Told.{gives_same, then_gives}
 use Rattle.block.specs.declared.Front.{Front}
-use Rattle.chain.specs.Chain.{opened, held, held_chain, checked}
+use Rattle.chain.specs.Chain.{opened, held_chain, checked}
 use Rattle.chain.specs.declared.Opened.{Opened}
 use Rattle.chain.specs.declared.Summary.{Summary}
 use Rattle.pool.specs.declared.Pool.{Pool}

@@ -3,7 +3,7 @@
 use mathlib.Core.Path.{◌≡◌, sym, ap, ◌∙◌}
 use mathlib.Core.Bool.{Bool, true, false}
 use mathlib.Core.Logic.{◌⊎◌, inl, inr}
-use mathlib.Core.List.{List, [], ◌∷◌}
+use mathlib.Core.List.{List}
 use Prim.Native.Nat.{ℕ, zero, suc, ◌+◌, ◌≤◌}
 use native.Mathlib.Omega.{arith}
 use lib.Dec.{ltb, leb}
@@ -16,7 +16,7 @@ use Rattle.number.specs.Number.{joined, read_groups, number_at}
 use Rattle.lms.specs.Lms.{longest_message, signs, verified, verifies, well_formed}
 use Rattle.lms.specs.Answer.{told}
 use Rattle.lms.specs.declared.Verified.{Verified}
-use Rattle.lms.specs.declared.Verified.TheVariants.{Valid, TooLong, Malformed, Invalid}
+use Rattle.lms.specs.declared.Verified.TheVariants.{TooLong, Invalid}
 use Rattle.manifest.specs.Manifest.{head_at}
 
 unless_low : {A : Type 0} (fine : Bool) (number place : ℕ) (t : Told A) → number ≤ 4 → number_of t ≤ 4 → number_of (unless fine number place t) ≤ 4

@@ -5,7 +5,7 @@ use mathlib.Core.Path.{◌≡◌, refl, sym, ap, ◌∙◌}
 use mathlib.Core.List.{List, [], ◌∷◌}
 use lib.ListN.{length, get_or, replicate}
 use lib.Seq.{ext_get_or}
-use Rattle.laws.specs.Told.{Told, gives, refuses}
+use Rattle.laws.specs.Told.{gives, refuses}
 use Rattle.order.specs.Order.{displays, obeyed}
 use Rattle.order.specs.Rearranged.{Rearranged}
 use Rattle.order.specs.declared.Order.{Order}

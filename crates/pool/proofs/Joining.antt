@@ -14,7 +14,7 @@ use Rattle.order.specs.Order.{order_in_range, valid}
 use Rattle.order.specs.declared.Order.{Order}
 use Rattle.chain.specs.declared.Opened.{Opened}
 use Rattle.chain.specs.declared.Summary.{Summary}
-use Rattle.pool.specs.Pool.{room, depots, depot_room, no_entry, entries_in, pool_of, counts, orders_of, share_of, taking, offer_fits, joined}
+use Rattle.pool.specs.Pool.{room, depots, depot_room, no_entry, entries_in, pool_of, orders_of, share_of, taking, offer_fits, joined}
 use Rattle.pool.specs.declared.Entry.{Entry}
 
 -- a pool of entries holds these

@@ -1,6 +1,6 @@
 -- 01, "Pool an order": "The pool is up to 64 entries, each an order and its entry slot." 02, d: "Each entry carries its depot, 0 to 3".
 -- Assumes nothing.
-use Rattle.std.specs.Prelude.{ℕ, zero, suc, ◌+◌, Bool, true, List, [], ◌∷◌, ◌++◌, map, ltb, leb, eqb, length, take, get_or}
+use Rattle.std.specs.Prelude.{ℕ, zero, suc, Bool, true, List, [], ◌∷◌, ◌++◌, map, ltb, leb, eqb, length, take, get_or}
 use Rattle.laws.specs.Pick.{pick}
 use Rattle.laws.specs.Told.{Told, gives, then, unless}
 use Rattle.laws.specs.Every.{both, within, every}

@@ -4,7 +4,6 @@ use Prim.Native.Nat.{ℕ, ◌≤◌}
 use mathlib.Core.Path.{◌≡◌, sym, ap, ◌∙◌}
 use mathlib.Core.List.{List}
 use native.Mathlib.Omega.{arith}
-use lib.ListN.{length}
 use Rattle.laws.specs.Told.{gives}
 use Rattle.laws.specs.Format.{Bytes}
 use Rattle.laws.proofs.Told.{gives_same, then_gives}

@@ -17,7 +17,7 @@ use Rattle.laws.proofs.Each.{each_parts}
 use Rattle.laws.proofs.Fold.{folded_append}
 use Rattle.laws.proofs.Taken.{joined_append}
 use Rattle.block.specs.Block.{Parts, block_bytes, Fits}
-use Rattle.chain.specs.Chain.{delivered, admitted}
+use Rattle.chain.specs.Chain.{delivered}
 use Rattle.chain.specs.Blocks.{chain_bytes, Admits, Accepted, Below}
 use Rattle.chain.specs.declared.Summary.{Summary}
 use Rattle.chain.proofs.Accepted.{admits_front}

@@ -1,7 +1,7 @@
 -- Demand 3's runs: what correct controllers do with the calls, slot by slot, and what is asked of a run, in the demand's words. A faulty controller is
 -- not modelled: whatever it sends is a delivery like any other.
 -- Assumes nothing.
-use Rattle.std.specs.Prelude.{ℕ, zero, suc, ◌+◌, ◌<◌, ◌≤◌, ◌≡◌, Bool, true, false, List, [], ◌∷◌, ◌++◌, eqb, length, take, get_or}
+use Rattle.std.specs.Prelude.{ℕ, zero, suc, ◌<◌, ◌≤◌, ◌≡◌, Bool, true, false, List, [], ◌∷◌, ◌++◌, eqb, length, take, get_or}
 use Rattle.laws.specs.Pick.{pick}
 use Rattle.laws.specs.Told.{Told, gives, refuses, given_or}
 use Rattle.laws.specs.Fold.{folded}

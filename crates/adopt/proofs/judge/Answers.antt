@@ -1,7 +1,6 @@
 -- `adopt::judge` meets its contract.
 -- Assumes nothing.
 use mathlib.Core.Path.{sym, ◌∙◌, ap}
-use borrow.Author.Rules.{rules}
 use Rattle.adopt.specs.Adopt.{accepted}
 use Rattle.laws.specs.Told.{given_or}
 use Rattle.adopt.proofs.judge.Goals as goal

@@ -1,14 +1,12 @@
 -- `block::read` meets its contract.
 -- Assumes nothing.
-use mathlib.Core.Path.{◌≡◌, sym, ap, ◌∙◌}
+use mathlib.Core.Path.{◌≡◌, sym}
 use native.Mathlib.Omega.{arith}
-use borrow.Author.Rules.{rules}
 use Rattle.laws.specs.Told.{gives, Found}
 use Rattle.block.specs.Block.{Parts, block_at}
 use Rattle.block.specs.Answers.{unlisted}
-use Rattle.block.specs.Blocks.{block_of}
 use Rattle.block.proofs.Whole.{whole_parts, whole_block}
-use Rattle.block.proofs.Bodies.{Stands, stands, body_refused, body_read}
+use Rattle.block.proofs.Bodies.{Stands, stands, body_read}
 use Rattle.block.proofs.read.Goals as goal
 
 pub link_at-link-requires : goal.link_at-link-requires

@@ -1,7 +1,6 @@
 -- `block::signature_at` meets its contract.
 -- Assumes nothing.
 use mathlib.Core.Path.{◌∙◌}
-use borrow.Author.Rules.{rules}
 use Rattle.laws.proofs.Placed.{copied_part}
 use Rattle.block.proofs.signature_at.Goals as goal
 

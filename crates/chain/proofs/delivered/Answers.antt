@@ -1,7 +1,6 @@
 -- `chain::delivered` meets its contract.
 -- Assumes nothing.
 use mathlib.Core.Path.{sym, ap, ◌∙◌}
-use borrow.Author.Rules.{rules}
 use Rattle.chain.specs.Answers.{summary_or}
 use Rattle.chain.proofs.Calls.{delivered_too_long, delivered_passed}
 use Rattle.chain.proofs.delivered.Goals as goal

@@ -1,9 +1,6 @@
 -- `chain::held` meets its contract.
 -- Assumes nothing.
 use mathlib.Core.Path.{sym, ap, ◌∙◌}
-use native.Mathlib.Omega.{arith}
-use lib.Seq.{length-take-le}
-use borrow.Author.Rules.{rules}
 use Rattle.chain.proofs.Calls.{bad_leaves, held_beyond, held_too_long, held_passed}
 use Rattle.chain.specs.Answers.{told_passed, summary_or}
 use Rattle.chain.specs.Chain.{bad}

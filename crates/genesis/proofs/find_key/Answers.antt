@@ -3,8 +3,7 @@
 use mathlib.Core.Path.{◌≡◌, sym, ◌∙◌}
 use Prim.Native.Nat.{◌≤◌}
 use native.Mathlib.Omega.{arith}
-use borrow.Author.Rules.{rules}
-use Rattle.laws.specs.Told.{gives, refuses}
+use Rattle.laws.specs.Told.{gives}
 use Rattle.laws.proofs.Every.{within_true}
 use Rattle.genesis.specs.Genesis.{genesis_of}
 use Rattle.genesis.proofs.Sound.{sound}

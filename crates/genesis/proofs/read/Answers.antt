@@ -1,7 +1,6 @@
 -- `genesis::read` meets its contract.
 -- Assumes nothing.
 use mathlib.Core.Path.{◌≡◌, sym, ap, ◌∙◌}
-use borrow.Author.Rules.{rules}
 use Rattle.laws.specs.Told.{refuses, found}
 use Rattle.laws.specs.Repeated.{repeated}
 use Rattle.number.specs.Number.{number_at}

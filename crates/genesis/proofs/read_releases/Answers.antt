@@ -1,14 +1,12 @@
 -- `genesis::read_releases` meets its contract.
 -- Assumes nothing.
 use mathlib.Core.Path.{◌≡◌, refl, sym, ap, ◌∙◌}
-use Prim.Native.Nat.{◌-◌, ◌≤◌}
 use native.Mathlib.Omega.{arith}
 use lib.Dec.{lit≤}
-use lib.ListN.{length, take, replicate, length-set}
+use lib.ListN.{take, replicate, length-set}
 use lib.Seq.{take_all}
-use borrow.Author.Rules.{rules}
 use Rattle.laws.specs.Told.{found}
-use Rattle.laws.proofs.Repeated.{Into, into_none, into_next, into_refused, into_all}
+use Rattle.laws.proofs.Repeated.{into_none, into_next, into_refused, into_all}
 use Rattle.number.specs.Number.{number_at}
 use Rattle.number.proofs.Answers.{not_a_value}
 use Rattle.genesis.specs.Genesis.{faulty}

@@ -1,7 +1,6 @@
 -- `issue::append` meets its contract.
 -- Assumes nothing.
 use mathlib.Core.Path.{sym, ◌∙◌}
-use borrow.Author.Rules.{rules}
 use Rattle.issue.proofs.Fronts.{front_fits_law}
 use Rattle.block.proofs.Lists.{block_pieces}
 use Rattle.block.specs.declared.Block.{Block}

@@ -1,7 +1,6 @@
 -- `issue::block_text` meets its contract.
 -- Assumes nothing.
-use mathlib.Core.Path.{sym, ◌∙◌}
-use borrow.Author.Rules.{rules}
+use mathlib.Core.Path.{sym}
 use Rattle.issue.proofs.Fronts.{front_fits_law}
 use Rattle.issue.proofs.block_text.Goals as goal
 

@@ -1,7 +1,6 @@
 -- `issue::draft` meets its contract.
 -- Assumes nothing.
 use mathlib.Core.Path.{sym, ◌∙◌}
-use borrow.Author.Rules.{rules}
 use Rattle.issue.proofs.Fronts.{front_fits_law}
 use Rattle.issue.proofs.draft.Goals as goal
 

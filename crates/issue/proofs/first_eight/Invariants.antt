@@ -1,12 +1,7 @@
 -- `issue::first_eight` meets its contract.
 -- Assumes nothing.
 use Prim.Native.Nat.{◌-◌}
-use mathlib.Core.Path.{◌≡◌, refl}
-use native.Mathlib.Omega.{arith}
-use lib.ListN.{length}
-use borrow.Author.Rules.{rules}
-use Rattle.order.specs.declared.Order.{Order}
-use Rattle.issue.proofs.Fronts.{Copied, copied_next, copied_all}
+use Rattle.issue.proofs.Fronts.{Copied}
 use Rattle.issue.proofs.first_eight.Given as goal
 
 abbrev pub invariant-loop-i : goal.invariant-loop-i

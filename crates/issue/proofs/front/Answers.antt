@@ -1,7 +1,6 @@
 -- `issue::front` meets its contract.
 -- Assumes nothing.
 use mathlib.Core.Path.{sym, ◌∙◌}
-use borrow.Author.Rules.{rules}
 use Rattle.issue.specs.Issue.{front}
 use Rattle.issue.proofs.front.Goals as goal
 

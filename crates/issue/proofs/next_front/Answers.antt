@@ -3,7 +3,6 @@
 use mathlib.Core.Path.{◌≡◌, ap, ◌∙◌}
 use mathlib.Core.List.{List}
 use lib.ListN.{length, take}
-use borrow.Author.Rules.{rules}
 use Rattle.laws.specs.Tabulate.{tailed}
 use Rattle.block.specs.Answers.{no_order}
 use Rattle.pool.specs.Pool.{entries_in, counting, orders_of, taking}

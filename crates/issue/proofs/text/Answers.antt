@@ -3,10 +3,9 @@
 use Prim.Native.Nat.{ℕ}
 use mathlib.Core.Path.{◌≡◌, refl, sym, ap, ◌∙◌}
 use mathlib.Core.List.{List, [], ◌∷◌}
-use borrow.Author.Rules.{rules}
 use Rattle.laws.specs.Placed.{placed, placing}
 use Rattle.block.specs.Blocks.{told_next, front_of}
-use Rattle.issue.proofs.Texts.{text_placed, text_short, text_written}
+use Rattle.issue.proofs.Texts.{text_placed, text_written}
 use Rattle.issue.proofs.text.Goals as goal
 
 abbrev letters : List ℕ

@@ -5,7 +5,6 @@ use Prim.Native.Nat.{◌<◌, ◌≤◌}
 use borrow.Author.Tests.{le-ltb, lt-ltb}
 use Rattle.lms.specs.Lms.{leaf_number, verifies}
 use native.Mathlib.Omega.{arith}
-use borrow.Author.Rules.{rules}
 use Rattle.lms.proofs.verifies.Goals as goal
 
 pub returns-then-q-ge32 : goal.returns-then-q-ge32

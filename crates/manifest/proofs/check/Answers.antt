@@ -6,10 +6,9 @@ use Prim.Native.Nat.{ℕ, ◌+◌, ◌-◌, ◌≤◌}
 use native.Mathlib.Omega.{arith}
 use lib.ListN.{length, take, drop, length-drop}
 use lib.Seq.{length-take-le, take_all}
-use borrow.Author.Tests.{le-leb, lt-leb}
-use borrow.Author.Rules.{rules}
+use borrow.Author.Tests.{le-leb}
 use Rattle.laws.specs.Bytes.{part}
-use Rattle.laws.specs.Told.{refuses, found}
+use Rattle.laws.specs.Told.{found}
 use Rattle.lms.specs.Answer.{told}
 use Rattle.lms.specs.Lms.{signs, verified}
 use Rattle.manifest.specs.Manifest.{head_at}

@@ -1,13 +1,10 @@
 -- `number::put` meets its contract. The loop's invariant: what is left to write, written from here, makes the whole.
 -- Assumes nothing.
-use mathlib.Core.Path.{◌≡◌, refl, ◌∙◌, sym}
-use Prim.Native.Nat.{◌+◌, ◌/◌, ◌<◌, ◌≤◌, ◌^◌}
-use native.Mathlib.Omega.{arith}
-use lib.ListN.{length, length-set}
+use mathlib.Core.Path.{◌≡◌}
+use Prim.Native.Nat.{◌+◌, ◌<◌, ◌≤◌, ◌^◌}
+use lib.ListN.{length}
 use lib.Seq.{sets}
-use borrow.Author.Rules.{rules}
 use Rattle.number.specs.Number.{written}
-use Rattle.number.proofs.Written.{longer, shortest, sets_last, sets_more}
 use Rattle.number.proofs.put.Given as goal
 
 abbrev pub invariant-loop-left : goal.invariant-loop-left

@@ -1,8 +1,6 @@
 -- `number::read` meets its contract, by the number's first group.
 -- Assumes nothing.
 use mathlib.Core.Path.{◌∙◌, sym}
-use native.Mathlib.Omega.{arith}
-use borrow.Author.Rules.{rules}
 use Rattle.number.proofs.Groups.{number_cut, number_one, number_more}
 use Rattle.number.proofs.read.Goals as goal
 

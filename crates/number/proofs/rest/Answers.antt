@@ -1,15 +1,12 @@
 -- `number::rest` meets its contract. The loop's invariant: the groups passed make `value`, the rest counts `scale` times.
 -- Assumes nothing.
-use mathlib.Core.Path.{◌≡◌, refl, ◌∙◌, sym}
-use Prim.Native.Nat.{◌-◌, ◌%◌, ◌^◌, ◌<◌, ◌≤◌}
+use mathlib.Core.Path.{◌∙◌, sym}
+use Prim.Native.Nat.{◌%◌, ◌^◌, ◌≤◌}
 use native.Mathlib.Omega.{arith}
 use native.Mathlib.Nat.{mul-le-mul_right, pow-le-pow_right, pow-suc}
 use native.Mathlib.Numerals.{add-one}
 use lib.Dec.{lit<}
 use lib.ListN.{get_or}
-use borrow.Author.Rules.{rules}
-use Rattle.number.specs.Number.{read_groups}
-use Rattle.number.specs.Steps.{finished}
 use Rattle.number.proofs.Groups.{turn_cut, turn_none, turn_last, turn_more, turns_over}
 use Rattle.number.proofs.rest.Goals as goal
 

@@ -1,16 +1,15 @@
 -- `pool::counting` meets its contract.
 -- Assumes nothing.
-use Prim.Native.Nat.{ℕ, ◌-◌, ◌≤◌}
-use mathlib.Core.Path.{◌≡◌, refl, sym, ◌∙◌, subst}
-use native.Mathlib.Omega.{arith}
+use Prim.Native.Nat.{ℕ, ◌≤◌}
+use mathlib.Core.Path.{◌≡◌, sym, ◌∙◌, subst}
 use mathlib.Core.Bool.{Bool}
 use mathlib.Core.List.{List}
 use lib.Dec.{leb}
-use lib.ListN.{length, length-map, get_or}
+use lib.ListN.{length, get_or}
 use borrow.Author.Rules.{rules}
 use Rattle.pool.specs.Pool.{counts}
 use Rattle.pool.specs.declared.Entry.{Entry}
-use Rattle.pool.proofs.Pools.{Keeping, keeping_none, keeping_one, keeping_on, keeping_all, no_more_than, least_few}
+use Rattle.pool.proofs.Pools.{keeping_one, keeping_on, no_more_than, least_few}
 use Rattle.pool.proofs.counting.Goals as goal
 
 -- an entry counts beside settled releases

@@ -1,14 +1,12 @@
 -- `pool::entries_fit` meets its contract.
 -- Assumes nothing.
-use Prim.Native.Nat.{◌-◌, ◌≤◌}
-use mathlib.Core.Path.{◌≡◌, refl, sym, ◌∙◌}
-use mathlib.Core.Bool.{true}
+use Prim.Native.Nat.{◌≤◌}
+use mathlib.Core.Path.{◌≡◌, sym, ◌∙◌}
 use native.Mathlib.Numerals.{add-one}
 use native.Mathlib.Omega.{arith}
-use lib.ListN.{length, length-map, take}
-use borrow.Author.Tests.{le-leb, lt-leb, not-true, not-false}
+use lib.ListN.{length}
+use borrow.Author.Tests.{le-leb}
 use borrow.Author.Rules.{rules}
-use Rattle.laws.specs.Every.{every}
 use Rattle.laws.proofs.Taken.{every_more, every_fails}
 use Rattle.pool.specs.Pool.{entry_fits, no_entry}
 use Rattle.pool.proofs.entries_fit.Goals as goal

@@ -1,16 +1,11 @@
 -- `pool::entries_fit` meets its contract.
 -- Assumes nothing.
 use Prim.Native.Nat.{◌-◌, ◌≤◌}
-use mathlib.Core.Path.{◌≡◌, refl, sym, ◌∙◌}
+use mathlib.Core.Path.{◌≡◌}
 use mathlib.Core.Bool.{true}
-use native.Mathlib.Numerals.{add-one}
-use native.Mathlib.Omega.{arith}
-use lib.ListN.{length, length-map, take}
-use borrow.Author.Tests.{le-leb, lt-leb, not-true, not-false}
-use borrow.Author.Rules.{rules}
+use lib.ListN.{take}
 use Rattle.laws.specs.Every.{every}
-use Rattle.laws.proofs.Taken.{every_more, every_fails}
-use Rattle.pool.specs.Pool.{entry_fits, no_entry}
+use Rattle.pool.specs.Pool.{entry_fits}
 use Rattle.pool.proofs.entries_fit.Given as goal
 
 abbrev pub invariant-loop-i : goal.invariant-loop-i

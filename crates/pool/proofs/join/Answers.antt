@@ -6,12 +6,10 @@ use mathlib.Core.Bool.{true}
 use mathlib.Core.List.{List}
 use native.Mathlib.Omega.{arith}
 use lib.ListN.{length, set}
-use borrow.Author.Rules.{rules}
 use Rattle.laws.specs.Told.{gives}
 use Rattle.order.specs.Order.{order_in_range, valid}
 use Rattle.pool.specs.Pool.{room, depot_room, counting, orders_of, share_of, taking, entries_in}
-use Rattle.pool.specs.Answers.{pool_or}
-use Rattle.pool.proofs.Joining.{entries_of, pool_add, out_of_range, no_depot, not_valid, depot_full, joins}
+use Rattle.pool.proofs.Joining.{entries_of, pool_add, joins}
 use Rattle.pool.proofs.Shares.{room_left}
 use Rattle.pool.proofs.Takings.{present_known, present_shares}
 use Rattle.pool.specs.declared.Entry.{Entry}

@@ -1,15 +1,15 @@
 -- `pool::of_depot` meets its contract.
 -- Assumes nothing.
-use Prim.Native.Nat.{ℕ, ◌-◌, ◌≤◌}
-use mathlib.Core.Path.{◌≡◌, refl, sym, ap, ◌∙◌, subst}
+use Prim.Native.Nat.{ℕ, ◌≤◌}
+use mathlib.Core.Path.{◌≡◌, sym, ap, ◌∙◌, subst}
 use mathlib.Core.List.{[], ◌∷◌}
 use native.Mathlib.Omega.{arith}
-use lib.ListN.{length, length-map, length-append, take, get_or}
+use lib.ListN.{length, length-append, take, get_or}
 use borrow.Author.Tests.{eq-eqb, ne_eqb}
 use borrow.Author.Rules.{rules}
 use Rattle.laws.specs.Fold.{those}
-use Rattle.laws.proofs.Fold.{those_one_more, those_no_more, take_least}
-use Rattle.pool.specs.Pool.{room, no_entry, is_of, share_of}
+use Rattle.laws.proofs.Fold.{those_one_more, those_no_more}
+use Rattle.pool.specs.Pool.{no_entry, is_of}
 use Rattle.pool.proofs.Pools.{least_few}
 use Rattle.pool.proofs.of_depot.Goals as goal
 

@@ -1,14 +1,13 @@
 -- `pool::take` meets its contract.
 -- Assumes nothing.
-use Prim.Native.Nat.{ℕ, ◌-◌, ◌≤◌}
+use Prim.Native.Nat.{ℕ, ◌≤◌}
 use mathlib.Core.Bool.{true, false}
 use mathlib.Core.Path.{◌≡◌, refl, sym, ◌∙◌, subst}
-use native.Mathlib.Omega.{arith}
-use lib.ListN.{get_or, length, length-map}
+use lib.ListN.{get_or, length}
 use borrow.Author.Rules.{rules}
 use Rattle.order.specs.Order.{valid, applied}
 use Rattle.pool.specs.Pool.{no_entry}
-use Rattle.pool.proofs.Pools.{Took, took_none, took_one, took_on, took_full, took_all, no_more_orders, least_few}
+use Rattle.pool.proofs.Pools.{took_none, took_one, took_on, took_full, took_all, least_few}
 use Rattle.pool.proofs.take.Goals as goal
 
 pub loop-i-init : goal.loop-i-init

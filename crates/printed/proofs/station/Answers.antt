@@ -5,7 +5,6 @@ use mathlib.Core.Path.{◌≡◌, sym, ap, ◌∙◌}
 use native.Mathlib.Omega.{arith}
 use lib.ListN.{length, take}
 use lib.Seq.{length-take-le}
-use borrow.Author.Rules.{rules}
 use Rattle.laws.specs.Placed.{placed, placing}
 use Rattle.laws.proofs.Placed.{wrote_length}
 use Rattle.printed.specs.Station.{text_of, station_text}

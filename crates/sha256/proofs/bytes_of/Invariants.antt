@@ -1,8 +1,7 @@
 -- `sha256::bytes_of` meets its contract. The loop's invariant: the bytes of the first i words are there.
 -- Assumes nothing.
-use Rattle.std.proofs.Common.{◌≡◌, ◌+◌, ◌-◌, ◌*◌, ◌≤◌, refl, subst, arith, lit≤, rules}
+use Rattle.std.proofs.Common.{◌-◌, ◌*◌, ◌≤◌}
 use Rattle.laws.specs.Tabulate.{Filled}
-use Rattle.laws.proofs.Tabulate.{filled_whole}
 use Rattle.sha256.specs.Sha256.{digest_byte}
 use Rattle.sha256.proofs.bytes_of.Given as goal
 

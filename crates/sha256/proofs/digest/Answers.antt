@@ -1,7 +1,6 @@
 -- `sha256::digest` meets its contract.
 -- Assumes nothing.
-use Rattle.std.proofs.Common.{rules, le-leb}
-use borrow.Author.Tests.{lt-leb}
+use Rattle.std.proofs.Common.{le-leb}
 use Rattle.sha256.specs.Sha256.{sha256}
 use Rattle.sha256.proofs.digest.Goals as goal
 

@@ -1,9 +1,8 @@
 -- `sha256::hash` meets its contract. The loop's invariant: the hash is that of the first n blocks.
 -- Assumes nothing.
-use Rattle.std.proofs.Common.{◌≡◌, ◌-◌, ◌/◌, ◌≤◌, length, refl, ap, ◌∙◌, add-one, arith, rules}
+use Rattle.std.proofs.Common.{◌≡◌, ◌/◌, length, refl, ap, ◌∙◌, add-one, arith}
 use Rattle.sha256.proofs.Padded.{padded_length}
 use Rattle.sha256.specs.Sha256.{padded, hashed}
-use Rattle.sha256.specs.Steps.{block_count}
 use Rattle.sha256.proofs.hash.Goals as goal
 
 pub loop-n-init : goal.loop-n-init

@@ -1,6 +1,5 @@
 -- `sha256::put_word` meets its contract.
 -- Assumes nothing.
-use Rattle.std.proofs.Common.{rules}
 use Rattle.sha256.proofs.Bytes.{four_bytes}
 use Rattle.sha256.proofs.put_word.Goals as goal
 

@@ -1,9 +1,8 @@
 -- `sha256::stands` meets its contract.
 -- Assumes nothing.
-use Rattle.std.proofs.Common.{◌≡◌, ℕ, ◌-◌, ◌≤◌, List, length, get_or, drop, sym, refl, ◌∙◌, arith, rules, eq-eqb, ne_eqb}
+use Rattle.std.proofs.Common.{◌≡◌, ℕ, List, length, get_or, sym, ◌∙◌, arith, rules, eq-eqb, ne_eqb}
 use Rattle.laws.proofs.Bytes.{part_length, part_byte}
 use Rattle.laws.proofs.Every.{same_from, same_over}
-use Rattle.laws.specs.Every.{same}
 use Rattle.laws.specs.Bytes.{part}
 use Rattle.sha256.proofs.stands.Goals as goal
 

@@ -1,8 +1,6 @@
 -- `sha256::stands` meets its contract.
 -- Assumes nothing.
-use Rattle.std.proofs.Common.{◌≡◌, ℕ, ◌-◌, ◌≤◌, List, length, get_or, drop, sym, refl, ◌∙◌, arith, rules, eq-eqb, ne_eqb}
-use Rattle.laws.proofs.Bytes.{part_length, part_byte}
-use Rattle.laws.proofs.Every.{same_from, same_over}
+use Rattle.std.proofs.Common.{◌≡◌, ◌-◌, ◌≤◌, drop}
 use Rattle.laws.specs.Every.{same}
 use Rattle.laws.specs.Bytes.{part}
 use Rattle.sha256.proofs.stands.Given as goal

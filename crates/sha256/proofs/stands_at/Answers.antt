@@ -1,6 +1,6 @@
 -- `sha256::stands_at` meets its contract.
 -- Assumes nothing.
-use Rattle.std.proofs.Common.{◌≡◌, ℕ, ◌+◌, ◌-◌, ◌<◌, false, eqb, List, [], ◌∷◌, length, drop, sym, refl, ap, le_of_suc-le-suc, arith, length-drop, take_all, rules}
+use Rattle.std.proofs.Common.{◌≡◌, ℕ, ◌+◌, ◌<◌, false, eqb, List, [], ◌∷◌, length, drop, sym, refl, ap, le_of_suc-le-suc, arith, length-drop, take_all, rules}
 use Rattle.laws.specs.Every.{same}
 use Rattle.laws.specs.Bytes.{part}
 use Rattle.laws.proofs.Every.{both_false}

@@ -4,11 +4,8 @@ use mathlib.Core.Path.{◌≡◌, refl, sym, ap, ◌∙◌}
 use mathlib.Core.Bool.{Bool, true, false}
 use mathlib.Core.List.{List}
 use Prim.Native.Nat.{ℕ, ◌+◌}
-use native.Mathlib.Omega.{arith}
 use lib.Dec.{leb}
 use lib.ListN.{length}
-use borrow.Author.Tests.{leb-true, not-true, not-false}
-use borrow.Author.Rules.{rules}
 use Rattle.laws.specs.Told.{Told, gives, refuses, Found, found, then, unless}
 use Rattle.order.specs.declared.Order.{Order}
 use Rattle.block.specs.declared.reading.Orders.{Orders}

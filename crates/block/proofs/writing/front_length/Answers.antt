@@ -1,9 +1,9 @@
 -- `block::writing::front_length` meets its contract.
 -- Assumes nothing.
-use mathlib.Core.Path.{sym, ◌∙◌, ◌≡◌}
+use mathlib.Core.Path.{◌≡◌}
 use Prim.Native.Nat.{◌+◌}
 use native.Mathlib.Omega.{arith}
-use lib.ListN.{length-map, length}
+use lib.ListN.{length}
 use borrow.Author.Rules.{rules}
 use Rattle.number.proofs.Written.{at_most_five}
 use Rattle.block.specs.Blocks.{front_of}

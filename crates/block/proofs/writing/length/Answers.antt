@@ -1,10 +1,7 @@
 -- `block::writing::length` meets its contract.
 -- Assumes nothing.
-use mathlib.Core.Path.{sym, ◌∙◌}
 use native.Mathlib.Omega.{arith}
-use borrow.Author.Rules.{rules}
 use Rattle.number.proofs.Written.{at_most_five}
-use Rattle.block.proofs.Lists.{few}
 use Rattle.block.proofs.writing.length.Goals as goal
 
 pub overflow_add-result-then-in_range : goal.overflow_add-result-then-in_range

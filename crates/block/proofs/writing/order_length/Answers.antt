@@ -4,7 +4,6 @@ use mathlib.Core.Path.{◌≡◌}
 use Prim.Native.Nat.{◌+◌}
 use native.Mathlib.Omega.{arith}
 use lib.ListN.{length}
-use borrow.Author.Rules.{rules}
 use Rattle.number.proofs.Written.{at_most_five}
 use Rattle.block.specs.Block.{order_bytes}
 use Rattle.block.proofs.Lists.{order_size, order_most}

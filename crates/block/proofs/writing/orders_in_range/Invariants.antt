@@ -1,16 +1,10 @@
 -- `block::writing::orders_in_range` meets its contract.
 -- Assumes nothing.
-use mathlib.Core.Path.{◌≡◌, refl, sym, ap, ◌∙◌}
+use mathlib.Core.Path.{◌≡◌}
 use mathlib.Core.Bool.{true}
-use Prim.Native.Nat.{ℕ, ◌-◌, ◌≤◌}
-use native.Mathlib.Numerals.{add-one}
-use native.Mathlib.Omega.{arith}
-use lib.ListN.{length, length-map, take}
-use borrow.Author.Rules.{rules}
-use borrow.Author.Tests.{not-true, not-false}
-use Rattle.block.specs.Answers.{no_order}
+use Prim.Native.Nat.{◌-◌, ◌≤◌}
+use lib.ListN.{take}
 use Rattle.laws.specs.Every.{every}
-use Rattle.laws.proofs.Taken.{every_more, every_fails}
 use Rattle.order.specs.Order.{order_in_range}
 use Rattle.block.proofs.writing.orders_in_range.Given as goal
 

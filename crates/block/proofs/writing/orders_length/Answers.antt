@@ -1,15 +1,11 @@
 -- `block::writing::orders_length` meets its contract.
 -- Assumes nothing.
-use mathlib.Core.Path.{◌≡◌, sym, ap, ◌∙◌}
-use Prim.Native.Nat.{ℕ, ◌+◌, ◌*◌, ◌-◌, ◌≤◌}
+use mathlib.Core.Path.{◌≡◌}
 use native.Mathlib.Omega.{arith}
-use lib.ListN.{length-append, length, take, length-map}
+use lib.ListN.{length}
 use borrow.Author.Rules.{rules}
 use Rattle.number.proofs.Written.{at_most_five}
-use Rattle.block.proofs.Lists.{begun, all_begun, begun_size}
-use Rattle.laws.specs.Bytes.{joined}
-use Rattle.number.specs.Number.{written}
-use Rattle.block.specs.Block.{order_bytes}
+use Rattle.block.proofs.Lists.{begun_size}
 use Rattle.block.proofs.writing.orders_length.Goals as goal
 
 pub loop-i-init : goal.loop-i-init

@@ -1,12 +1,8 @@
 -- `block::writing::orders_length` meets its contract.
 -- Assumes nothing.
-use mathlib.Core.Path.{◌≡◌, sym, ap, ◌∙◌}
-use Prim.Native.Nat.{ℕ, ◌+◌, ◌*◌, ◌-◌, ◌≤◌}
-use native.Mathlib.Omega.{arith}
-use lib.ListN.{length-append, length, take, length-map}
-use borrow.Author.Rules.{rules}
-use Rattle.number.proofs.Written.{at_most_five}
-use Rattle.block.proofs.Lists.{begun, all_begun, begun_size}
+use mathlib.Core.Path.{◌≡◌}
+use Prim.Native.Nat.{◌+◌, ◌*◌, ◌-◌, ◌≤◌}
+use lib.ListN.{length, take}
 use Rattle.laws.specs.Bytes.{joined}
 use Rattle.number.specs.Number.{written}
 use Rattle.block.specs.Block.{order_bytes}

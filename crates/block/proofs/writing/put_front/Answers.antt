@@ -4,7 +4,6 @@ use mathlib.Core.Path.{◌≡◌, refl, sym}
 use mathlib.Core.List.{List, ◌++◌}
 use Prim.Native.Nat.{ℕ}
 use native.Mathlib.Omega.{arith}
-use borrow.Author.Rules.{rules}
 use Rattle.laws.proofs.Every.{within_true}
 use Rattle.laws.specs.Placed.{Room}
 use Rattle.laws.proofs.Placed.{room_same, room_first, room_then, wrote_same, wrote_then}

@@ -1,13 +1,8 @@
 -- `block::writing::put_order` meets its contract.
 -- Assumes nothing.
 use mathlib.Core.List.{◌++◌}
-use native.Mathlib.Omega.{arith}
-use borrow.Author.Rules.{rules}
-use Rattle.laws.proofs.Every.{within_true}
 use Rattle.number.specs.Number.{written}
-use Rattle.laws.proofs.Placed.{room_first, room_then, wrote_then}
-use Rattle.order.specs.Order.{last_display}
-use Rattle.order.proofs.Validity.{range_parts}
+use Rattle.laws.proofs.Placed.{wrote_then}
 use Rattle.block.proofs.writing.put_order.Goals as goal
 
 pub returns : goal.returns

@@ -1,17 +1,14 @@
 -- `block::writing::put_orders` meets its contract.
 -- Assumes nothing.
-use mathlib.Core.Path.{◌≡◌, sym, ap, ◌∙◌}
+use mathlib.Core.Path.{◌≡◌, sym, ap}
 use mathlib.Core.List.{◌++◌}
-use Prim.Native.Nat.{◌-◌, ◌≤◌}
 use native.Mathlib.Omega.{arith}
-use lib.ListN.{length, take, length-map}
+use lib.ListN.{length}
 use borrow.Author.Rules.{rules}
-use Rattle.laws.proofs.Placed.{room_same, wrote_same, wrote_length, room_first, room_then, wrote_none, wrote_then}
-use Rattle.laws.specs.Placed.{Room, Wrote}
+use Rattle.laws.proofs.Placed.{room_same, wrote_same, room_then, wrote_then}
+use Rattle.laws.specs.Placed.{Room}
 use Rattle.block.proofs.Lists.{begun, all_begun, range_at, room_more, wrote_more}
-use Rattle.laws.specs.Bytes.{joined}
 use Rattle.number.specs.Number.{written}
-use Rattle.block.specs.Block.{order_bytes}
 use Rattle.block.proofs.writing.put_orders.Goals as goal
 
 pub put_order-place-requires : goal.put_order-place-requires

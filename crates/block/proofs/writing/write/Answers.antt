@@ -4,14 +4,13 @@ use mathlib.Core.Path.{◌≡◌, sym, ◌∙◌}
 use mathlib.Core.Bool.{true}
 use mathlib.Core.List.{◌++◌}
 use Prim.Native.Nat.{◌+◌}
-use lib.ListN.{length, length-map}
-use borrow.Author.Tests.{not-true, not-false}
+use lib.ListN.{length}
 use borrow.Author.Rules.{rules}
 use Rattle.laws.specs.Placed.{Room}
-use Rattle.laws.proofs.Placed.{judged_refused, judged_short, judged_wrote, enough_room, too_little, room_same, room_first, room_then, wrote_same, wrote_then}
+use Rattle.laws.proofs.Placed.{judged_short, judged_wrote, enough_room, too_little, room_same, wrote_same, wrote_then}
 use Rattle.block.specs.Block.{block_bytes}
 use Rattle.block.specs.Blocks.{parts_in, front_fits, front_of}
-use Rattle.block.proofs.Lists.{few, block_pieces, block_size}
+use Rattle.block.proofs.Lists.{block_pieces, block_size}
 use Rattle.block.proofs.writing.write.Goals as goal
 
 pub returns-then-not-fits : goal.returns-then-not-fits

@@ -1,11 +1,7 @@
 -- `chain::judge::join` meets its contract.
 -- Assumes nothing.
-use Prim.Native.Nat.{◌≤◌}
 use mathlib.Core.Path.{sym, ◌∙◌}
 use native.Mathlib.Omega.{arith}
-use lib.ListN.{length}
-use borrow.Author.Tests.{not-true, not-false}
-use borrow.Author.Rules.{rules}
 use Rattle.block.specs.Answers.{unlisted}
 use Rattle.chain.proofs.Judging.{ends, other_link, other_orders, joins}
 use Rattle.chain.proofs.judge.join.Goals as goal

@@ -1,11 +1,9 @@
 -- `chain::judge::judge` meets its contract.
 -- Assumes nothing.
 use mathlib.Core.Path.{sym, ◌∙◌}
-use borrow.Author.Tests.{not-true, not-false}
-use borrow.Author.Rules.{rules}
 use Rattle.block.specs.Answers.{unlisted}
 use Rattle.chain.specs.Answers.{way_of}
-use Rattle.chain.proofs.Judging.{unread, few_orders, stamp_not_above, not_admitted, joined_if_admitted}
+use Rattle.chain.proofs.Judging.{unread, stamp_not_above, not_admitted, joined_if_admitted}
 use Rattle.chain.proofs.judge.judge.Goals as goal
 
 pub returns-then-not-earlier : goal.returns-then-not-earlier

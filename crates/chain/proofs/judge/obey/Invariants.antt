@@ -1,15 +1,8 @@
 -- `chain::judge::obey` meets its contract.
 -- Assumes nothing.
-use Prim.Native.Nat.{ℕ, ◌+◌, ◌-◌, ◌≤◌}
-use mathlib.Core.Path.{ap, sym, ◌∙◌, ◌≡◌, refl}
-use mathlib.Core.List.{List}
-use native.Mathlib.Omega.{arith}
-use lib.Seq.{length-take-le}
-use lib.ListN.{length, length-map, drop_of_length-le, drop, take}
-use borrow.Author.Tests.{not-true, not-false}
-use borrow.Author.Rules.{rules}
-use Rattle.block.specs.Answers.{no_order}
-use Rattle.chain.proofs.Judging.{obeyed_next, obeyed_fails}
+use Prim.Native.Nat.{◌-◌, ◌≤◌}
+use mathlib.Core.Path.{◌≡◌}
+use lib.ListN.{drop, take}
 use Rattle.order.specs.Order.{obeyed}
 use Rattle.chain.proofs.judge.obey.Given as goal
 

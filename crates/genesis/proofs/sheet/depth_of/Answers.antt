@@ -2,11 +2,8 @@
 -- Assumes nothing.
 use Prim.Native.Nat.{◌≤◌}
 use mathlib.Core.Path.{sym, ◌∙◌}
-use native.Mathlib.Omega.{arith}
-use borrow.Author.Rules.{rules}
-use Rattle.laws.specs.Every.{within}
 use Rattle.laws.proofs.Every.{within_true}
-use Rattle.genesis.proofs.Depths.{entry_is, too_few}
+use Rattle.genesis.proofs.Depths.{entry_is}
 use Rattle.genesis.proofs.sheet.depth_of.Goals as goal
 
 pub returns : goal.returns

@@ -1,7 +1,6 @@
 -- `genesis::sheet::entry` meets its contract: the code's table is the definition's.
 -- Assumes nothing.
 use mathlib.Core.Path.{refl}
-use borrow.Author.Rules.{rules}
 use Rattle.genesis.specs.Depths.{depths}
 use Rattle.genesis.proofs.sheet.entry.Goals as goal
 

@@ -2,11 +2,10 @@
 -- Assumes nothing.
 use mathlib.Core.Path.{◌≡◌, sym, ap, ◌∙◌}
 use mathlib.Core.List.{List, [], ◌∷◌, ◌++◌, append_assoc}
-use Prim.Native.Nat.{ℕ, ◌+◌, ◌-◌, ◌≤◌}
-use lib.ListN.{length, take, length-append, length-set}
+use Prim.Native.Nat.{ℕ}
+use lib.ListN.{length, take, length-append}
 use lib.Seq.{length-take-le}
 use Rattle.sha256.specs.Sha256.{sha256}
-use Rattle.lms.specs.Lms.{chained}
 use Rattle.lms.proofs.Texts.{Begins, begins_first, begins_more, begins_byte, begins_less, begins_part, begins_all}
 use Rattle.lms.proofs.Chains.{chained_none, chained_next}
 use Rattle.lms.proofs.Sizes.{hash_size}

@@ -1,17 +1,10 @@
 -- `lms::one_time::chain` meets its contract. The loop's invariant: the text begins as it did, and the value has gone the steps up to j.
 -- Assumes nothing.
-use mathlib.Core.Path.{◌≡◌, sym, ap, ◌∙◌}
-use mathlib.Core.List.{List, [], ◌∷◌, ◌++◌, append_assoc}
-use Prim.Native.Nat.{ℕ, ◌+◌, ◌-◌, ◌≤◌}
-use lib.ListN.{length, take, length-append, length-set}
-use lib.Seq.{length-take-le}
-use Rattle.sha256.specs.Sha256.{sha256}
+use mathlib.Core.Path.{◌≡◌}
+use Prim.Native.Nat.{◌-◌, ◌≤◌}
+use lib.ListN.{length, take}
 use Rattle.lms.specs.Lms.{chained}
-use Rattle.lms.proofs.Texts.{Begins, begins_first, begins_more, begins_byte, begins_less, begins_part, begins_all}
-use Rattle.lms.proofs.Chains.{chained_none, chained_next}
-use Rattle.lms.proofs.Sizes.{hash_size}
-use native.Mathlib.Omega.{arith}
-use borrow.Author.Rules.{rules}
+use Rattle.lms.proofs.Texts.{Begins}
 use Rattle.lms.proofs.one_time.chain.Given as goal
 
 abbrev pub invariant-loop-j : goal.invariant-loop-j

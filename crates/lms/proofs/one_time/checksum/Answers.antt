@@ -1,11 +1,9 @@
 -- `lms::one_time::checksum` meets its contract. The loop's invariant: the sum over the first i bytes, and a bound on it.
 -- Assumes nothing.
-use mathlib.Core.Path.{◌≡◌, refl}
-use Prim.Native.Nat.{◌*◌, ◌-◌, ◌≤◌}
+use mathlib.Core.Path.{refl}
 use native.Mathlib.Numerals.{add-one}
 use Rattle.lms.specs.Lms as spec
 use native.Mathlib.Omega.{arith}
-use borrow.Author.Rules.{rules}
 use Rattle.lms.proofs.one_time.checksum.Goals as goal
 
 pub loop-i-init : goal.loop-i-init

@@ -1,11 +1,8 @@
 -- `lms::one_time::checksum` meets its contract. The loop's invariant: the sum over the first i bytes, and a bound on it.
 -- Assumes nothing.
-use mathlib.Core.Path.{◌≡◌, refl}
+use mathlib.Core.Path.{◌≡◌}
 use Prim.Native.Nat.{◌*◌, ◌-◌, ◌≤◌}
-use native.Mathlib.Numerals.{add-one}
 use Rattle.lms.specs.Lms as spec
-use native.Mathlib.Omega.{arith}
-use borrow.Author.Rules.{rules}
 use Rattle.lms.proofs.one_time.checksum.Given as goal
 
 abbrev pub invariant-loop-i : goal.invariant-loop-i

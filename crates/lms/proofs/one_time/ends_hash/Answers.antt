@@ -6,7 +6,7 @@ use Prim.Native.Nat.{ℕ, ◌+◌, ◌*◌, ◌-◌, ◌≤◌}
 use lib.ListN.{length, get_or, length-append}
 use Rattle.sha256.specs.Sha256.{sha256}
 use Rattle.lms.specs.Lms.{identifier, key_tag, prefix, chained, chain_end, chain_ends}
-use Rattle.lms.proofs.Texts.{Begins, begins_first, begins_more, begins_all}
+use Rattle.lms.proofs.Texts.{begins_first, begins_more, begins_all}
 use Rattle.lms.proofs.Sizes.{prefix_size, end_size, ends_size}
 use Rattle.lms.proofs.Chains.{ends_next}
 use native.Mathlib.Omega.{arith}

@@ -2,7 +2,6 @@
 -- Assumes nothing.
 use mathlib.Core.Path.{◌∙◌}
 use Rattle.lms.specs.Lms.{key_hash_of}
-use borrow.Author.Rules.{rules}
 use Rattle.lms.proofs.one_time.key_hash.Goals as goal
 
 pub returns : goal.returns

@@ -3,15 +3,13 @@
 use mathlib.Core.Path.{◌≡◌, sym, ap, ◌∙◌}
 use mathlib.Core.List.{List, ◌++◌}
 use Prim.Native.Nat.{ℕ, ◌+◌}
-use lib.ListN.{length, take, length-append}
-use lib.Seq.{length-take-le}
+use lib.ListN.{length, length-append}
 use Rattle.laws.proofs.Bytes.{part_length}
 use Rattle.sha256.specs.Sha256.{sha256}
 use Rattle.lms.specs.Lms.{randomizer, message_tag, message_hash}
 use Rattle.lms.proofs.Texts.{Begins, begins_three, begins_part}
 use Rattle.lms.proofs.Sizes.{prefix_size}
 use native.Mathlib.Omega.{arith}
-use borrow.Author.Rules.{rules}
 use Rattle.lms.proofs.one_time.message_hash.Goals as goal
 
 pub returns : goal.returns

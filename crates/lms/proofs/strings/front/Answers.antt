@@ -7,7 +7,6 @@ use Rattle.laws.proofs.Bytes.{part_length}
 use Rattle.lms.specs.Lms.{u16str, u32str, identifier, prefix}
 use Rattle.lms.proofs.Texts.{begins_first, begins_more, begins_all}
 use native.Mathlib.Omega.{arith}
-use borrow.Author.Rules.{rules}
 use Rattle.lms.proofs.strings.front.Goals as goal
 
 pub returns : goal.returns

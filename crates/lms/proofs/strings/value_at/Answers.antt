@@ -2,7 +2,6 @@
 -- Assumes nothing.
 use mathlib.Core.Path.{◌∙◌}
 use Rattle.laws.proofs.Placed.{copied_part}
-use borrow.Author.Rules.{rules}
 use Rattle.lms.proofs.strings.value_at.Goals as goal
 
 pub returns : goal.returns

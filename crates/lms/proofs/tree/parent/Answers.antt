@@ -3,7 +3,6 @@
 use mathlib.Core.Path.{◌∙◌}
 use borrow.Author.Tests.{eq-eqb, ne_eqb}
 use Rattle.lms.specs.Lms as spec
-use borrow.Author.Rules.{rules}
 use Rattle.lms.proofs.tree.parent.Goals as goal
 
 pub returns-then-node-eq1 : goal.returns-then-node-eq1

@@ -1,11 +1,9 @@
 -- `lms::tree::root` meets its contract. The loop's invariant: the node is i steps above the leaf, and the value is its.
 -- Assumes nothing.
 use mathlib.Core.Path.{◌≡◌, refl, ◌∙◌}
-use Prim.Native.Nat.{◌-◌, ◌/◌, ◌^◌, ◌≤◌}
-use Rattle.lms.specs.Lms.{identifier, climbed, root_from}
+use Rattle.lms.specs.Lms.{climbed, root_from}
 use Rattle.lms.proofs.Chains.{climbed_next, halved}
 use native.Mathlib.Omega.{arith}
-use borrow.Author.Rules.{rules}
 use Rattle.lms.proofs.tree.root.Goals as goal
 
 pub loop-i-init : goal.loop-i-init

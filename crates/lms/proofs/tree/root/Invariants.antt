@@ -1,11 +1,8 @@
 -- `lms::tree::root` meets its contract. The loop's invariant: the node is i steps above the leaf, and the value is its.
 -- Assumes nothing.
-use mathlib.Core.Path.{◌≡◌, refl, ◌∙◌}
+use mathlib.Core.Path.{◌≡◌}
 use Prim.Native.Nat.{◌-◌, ◌/◌, ◌^◌, ◌≤◌}
-use Rattle.lms.specs.Lms.{identifier, climbed, root_from}
-use Rattle.lms.proofs.Chains.{climbed_next, halved}
-use native.Mathlib.Omega.{arith}
-use borrow.Author.Rules.{rules}
+use Rattle.lms.specs.Lms.{identifier, climbed}
 use Rattle.lms.proofs.tree.root.Given as goal
 
 abbrev pub invariant-loop-i : goal.invariant-loop-i

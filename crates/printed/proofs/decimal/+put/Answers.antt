@@ -1,11 +1,11 @@
 -- `printed::decimal::put` meets its contract: there is room for the higher digits, and behind these for the lowest.
 -- Assumes nothing.
-use Prim.Native.Nat.{ℕ, ◌+◌, ◌/◌, ◌%◌, ◌^◌, ◌<◌, ◌≤◌}
-use mathlib.Core.Path.{◌≡◌, sym, ap}
+use Prim.Native.Nat.{ℕ, ◌/◌, ◌%◌, ◌^◌, ◌<◌, ◌≤◌}
+use mathlib.Core.Path.{sym, ap}
 use mathlib.Core.List.{List, [], ◌∷◌, ◌++◌}
 use native.Mathlib.Omega.{arith}
 use lib.ListN.{length}
-use Rattle.laws.specs.Placed.{Room, Wrote}
+use Rattle.laws.specs.Placed.{Room}
 use Rattle.laws.proofs.Placed.{room_same, room_first, room_then, wrote_same, wrote_then}
 use Rattle.printed.specs.Decimal.{digit, decimal}
 use Rattle.printed.proofs.Decimals.{decimal_one, decimal_more, wrote_one}

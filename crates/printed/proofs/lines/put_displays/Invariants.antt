@@ -1,13 +1,8 @@
 -- `printed::lines::put_displays` meets its contract.
 -- Assumes nothing.
 use Prim.Native.Nat.{◌-◌, ◌≤◌}
-use mathlib.Core.Path.{◌≡◌, sym, ap}
-use native.Mathlib.Omega.{arith}
-use borrow.Author.Rules.{rules}
 use Rattle.laws.specs.Placed.{Wrote}
-use Rattle.laws.proofs.Placed.{wrote_same, wrote_none, wrote_length}
 use Rattle.printed.specs.Station.{display_lines}
-use Rattle.printed.proofs.Texts.{lines_none, room_line, wrote_line}
 use Rattle.printed.proofs.lines.put_displays.Given as goal
 
 abbrev pub invariant-loop-display : goal.invariant-loop-display

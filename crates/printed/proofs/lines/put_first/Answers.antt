@@ -1,8 +1,7 @@
 -- `printed::lines::put_first` meets its contract.
 -- Assumes nothing.
 use mathlib.Core.List.{◌++◌}
-use borrow.Author.Rules.{rules}
-use Rattle.laws.proofs.Placed.{room_first, room_then, wrote_then}
+use Rattle.laws.proofs.Placed.{wrote_then}
 use Rattle.printed.specs.Station.{word}
 use Rattle.printed.proofs.lines.put_first.Goals as goal
 

@@ -2,9 +2,8 @@
 -- Assumes nothing.
 use mathlib.Core.Path.{◌≡◌, sym}
 use mathlib.Core.List.{◌++◌}
-use borrow.Author.Rules.{rules}
-use Rattle.laws.proofs.Placed.{room_same, room_first, room_then, wrote_same, wrote_then}
-use Rattle.printed.specs.Station.{first_line, display_lines, refused_text, text_of}
+use Rattle.laws.proofs.Placed.{wrote_same, wrote_then}
+use Rattle.printed.specs.Station.{first_line, display_lines, text_of}
 use Rattle.printed.specs.Answers.{told_asked}
 use Rattle.printed.proofs.lines.put_text.Goals as goal
 

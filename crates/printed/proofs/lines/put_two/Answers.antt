@@ -1,7 +1,6 @@
 -- `printed::lines::put_two` meets its contract.
 -- Assumes nothing.
-use borrow.Author.Rules.{rules}
-use Rattle.laws.proofs.Placed.{room_first, room_then, wrote_then}
+use Rattle.laws.proofs.Placed.{wrote_then}
 use Rattle.printed.specs.Station.{word}
 use Rattle.printed.proofs.lines.put_two.Goals as goal
 

@@ -1,10 +1,7 @@
 -- `printed::lines::put_word` meets its contract.
 -- Assumes nothing.
 use mathlib.Core.List.{[], ◌∷◌}
-use native.Mathlib.Omega.{arith}
-use borrow.Author.Rules.{rules}
-use Rattle.laws.specs.Placed.{Room}
-use Rattle.laws.proofs.Placed.{room_first, room_then, wrote_then}
+use Rattle.laws.proofs.Placed.{wrote_then}
 use Rattle.printed.specs.Decimal.{decimal}
 use Rattle.printed.proofs.Decimals.{wrote_one}
 use Rattle.printed.proofs.lines.put_word.Goals as goal

@@ -1,6 +1,6 @@
 -- `sha256::padding::block` meets its contract.
 -- Assumes nothing.
-use Rattle.std.proofs.Common.{sym, ◌∙◌, rules}
+use Rattle.std.proofs.Common.{sym, ◌∙◌}
 use Rattle.sha256.proofs.Padded.{block_inside}
 use Rattle.sha256.proofs.padding.block.Goals as goal
 

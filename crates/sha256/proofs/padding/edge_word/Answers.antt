@@ -1,6 +1,6 @@
 -- `sha256::padding::edge_word` meets its contract.
 -- Assumes nothing.
-use Rattle.std.proofs.Common.{◌+◌, ◌∙◌, arith, rules}
+use Rattle.std.proofs.Common.{◌+◌, ◌∙◌, arith}
 use Rattle.sha256.proofs.Padded.{byte_of_message, byte_end, byte_zero, word_is}
 use Rattle.sha256.proofs.padding.edge_word.Goals as goal
 

@@ -1,7 +1,6 @@
 -- `sha256::padding::message_block` meets its contract. The loop's invariant: the words below t are there.
 -- Assumes nothing.
-use Rattle.std.proofs.Common.{ℕ, ◌+◌, ◌-◌, ◌*◌, ◌≤◌, List, set, refl, ap, add-one, arith, lit≤, rules}
-use Rattle.laws.specs.Tabulate.{Filled}
+use Rattle.std.proofs.Common.{ℕ, ◌+◌, ◌*◌, List, set, ap, add-one, arith}
 use Rattle.laws.proofs.Tabulate.{filled_next, filled_whole}
 use Rattle.sha256.specs.Sha256.{word_at, block_at}
 use Rattle.sha256.proofs.padding.message_block.Goals as goal

@@ -1,6 +1,5 @@
 -- `sha256::padding::padded_block` meets its contract.
 -- Assumes nothing.
-use Rattle.std.proofs.Common.{lit<}
 use Rattle.sha256.specs.Sha256.{block_at}
 use Rattle.sha256.proofs.padding.padded_block.Goals as goal
 

@@ -1,6 +1,6 @@
 -- `sha256::padding::padded_word` meets its contract.
 -- Assumes nothing.
-use Rattle.std.proofs.Common.{◌+◌, ◌*◌, sym, ◌∙◌, arith, rules}
+use Rattle.std.proofs.Common.{◌+◌, ◌*◌, sym, ◌∙◌, arith}
 use Rattle.sha256.proofs.Padded.{word_inside, word_zero, word_last}
 use Rattle.sha256.proofs.padding.padded_word.Goals as goal
 

@@ -1,6 +1,5 @@
 -- `sha256::rounds::compress` meets its contract.
 -- Assumes nothing.
-use Rattle.std.proofs.Common.{lit<, rules}
 use Rattle.sha256.specs.Sha256.{compressed}
 use Rattle.sha256.proofs.rounds.compress.Goals as goal
 

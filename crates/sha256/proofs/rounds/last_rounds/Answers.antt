@@ -1,6 +1,6 @@
 -- `sha256::rounds::last_rounds` meets its contract.
 -- Assumes nothing.
-use Rattle.std.proofs.Common.{◌≡◌, ℕ, List, get_or, ap, lit<, rules}
+use Rattle.std.proofs.Common.{◌≡◌, ℕ, List, get_or, ap, lit<}
 use Rattle.sha256.proofs.Working.{one_round}
 use Rattle.sha256.specs.Sha256.{round_constants}
 use Rattle.sha256.specs.Steps.{words_from}

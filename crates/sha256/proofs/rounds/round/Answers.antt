@@ -1,7 +1,6 @@
 -- `sha256::rounds::round` meets its contract.
 -- Assumes nothing.
 use Rattle.sha256.specs.Sha256.{round}
-use Rattle.std.proofs.Common.{lit<, rules}
 use Rattle.sha256.proofs.rounds.round.Goals as goal
 
 pub returns : goal.returns

@@ -1,6 +1,6 @@
 -- `sha256::rounds::rounds` meets its contract.
 -- Assumes nothing.
-use Rattle.std.proofs.Common.{arith, rules}
+use Rattle.std.proofs.Common.{arith}
 use Rattle.sha256.proofs.Schedule.{starts}
 use Rattle.sha256.proofs.Working.{no_round}
 use Rattle.sha256.specs.Sha256.{schedule}

@@ -1,6 +1,6 @@
 -- `sha256::rounds::two_rounds` meets its contract.
 -- Assumes nothing.
-use Rattle.std.proofs.Common.{◌≡◌, ℕ, suc, List, get_or, ap, ◌∙◌, add-one, arith, lit<, rules}
+use Rattle.std.proofs.Common.{◌≡◌, ℕ, suc, List, get_or, ap, ◌∙◌, add-one, arith}
 use Rattle.sha256.proofs.Schedule.{moves}
 use Rattle.sha256.proofs.Working.{one_round}
 use Rattle.sha256.specs.Sha256.{round_constants}
