@@ -1,5 +1,5 @@
 /*
- * The ledger library for hosts in C (C99) and C++ (C++11): the calls that target/staticlib/libledger.a exports (`rt staticlib ledger`).
+ * The ledger library for hosts in C (C99) and C++ (C++11): the calls that target/staticlib/libledger.a exports (`tools/archive`).
  *
  * Every call answers for any bytes, any length and any number. An answer begins with the refusal's number, 0 where there is none, and its
  * place. Only ledger_turn and ledger_depth never refuse, and answer a number alone.
@@ -39,8 +39,8 @@
  * of them, or missed a slot, counts among the t faulty to the end of the run, whatever it adopts: its report is not to be used. A way to join again
  * within a run is to come.
  *
- * The target is x86-64 with the System V calling convention. The archive uses SSE2 and the red zone, the 128 bytes below the stack pointer: where
- * interrupts run on the stack of what they interrupt, as in a kernel, give them a stack of their own or keep them off during a call.
+ * The target is x86-64-v2 with the System V calling convention. The archive uses SSE, up to SSE4.2, and the red zone, the 128 bytes below the stack
+ * pointer: where interrupts run on the stack of what they interrupt, as in a kernel, give them a stack of their own or keep them off during a call.
  */
 #ifndef LEDGER_H
 #define LEDGER_H

@@ -1,4 +1,4 @@
-//! Links the archive of the proved library: the file that LEDGER_ARCHIVE names, or else the one that `rt staticlib ledger` writes in this
+//! Links the archive of the proved library: the file that LEDGER_ARCHIVE names, or else the one that `tools/archive` writes in this
 //! repository.
 use std::path::{Path, PathBuf};
 use std::{env, fs};
@@ -26,7 +26,7 @@ fn link() -> Result<(), String> {
     // a name of its own, so that the linker finds this file and no other
     fs::copy(&archive, Path::new(&folder).join("libproved_ledger.a")).map_err(|fault| {
         format!(
-            "can't read {}: {fault}. Run `rt staticlib ledger`, or name the archive in LEDGER_ARCHIVE",
+            "can't read {}: {fault}. Run `tools/archive`, or name the archive in LEDGER_ARCHIVE",
             archive.display()
         )
     })?;

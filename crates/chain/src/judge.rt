@@ -26,6 +26,7 @@ pub struct Judging {
     pub after: Standing,
 }
 
+#[inline(always)]
 pub fn judge(chain: &[u8], verdicts: &[u8], way: Way, clock: Slot, before: Standing) -> Judging
     requires { before.count.0 < spec.largest_count }
     ensures { told_judging result ≡ spec.judged (way_of way verdicts.now) clock.0 chain.now before }
@@ -91,6 +92,7 @@ fn good_verdict(verdicts: &[u8], at: usize) -> bool
 }
 
 // Judges the link and the orders of a block that ends at `next`.
+#[inline(always)]
 fn join(chain: &[u8], before: Standing, orders: Orders, stamp: Slot, next: usize) -> Judging
     requires { (before.count.0 < spec.largest_count) × (orders.count ≤ 8) × (body_at chain.now before.length ≡ found (unlisted orders, stamp.0) next) }
     ensures { told_judging result ≡ then (block_at chain.now before.length) (spec.joining chain.now before) }

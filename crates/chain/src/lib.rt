@@ -115,6 +115,7 @@ fn closed(number: u32) -> Opening
 }
 
 // A delivered chain: 16, then its blocks one by one.
+#[inline(always)]
 pub fn delivered(opened: Opened, chain: &[u8], verdicts: &[u8]) -> Passed
     ensures answer { told_passed result ≡ spec.delivered_chain opened chain.now verdicts.now }
     ensures summary { result.summary ≡ summary_or opened (spec.delivered_chain opened chain.now verdicts.now) }
@@ -161,6 +162,7 @@ fn bad(passed: Passed) -> Passed
 }
 
 // What every call on a held chain begins with: 1, 2, 17.
+#[inline(always)]
 pub fn hold(genesis: &[u8], clock: Slot, buffer: &[u8], length: usize) -> Holding
     ensures answer { told_holding result ≡ spec.holding genesis.now clock.0 buffer.now length }
     ensures opened { result.opened ≡ opened_or (spec.opened genesis.now clock.0) }

@@ -16,6 +16,7 @@ pub struct Passed {
     pub summary: Summary,
 }
 
+#[inline(always)]
 pub fn pass(chain: &[u8], verdicts: &[u8], way: Way, opened: Opened) -> Passed
     requires { length chain.now ≤ spec.longest }
     ensures result_value { told_passed result ≡ spec.passed opened (way_of way verdicts.now) chain.now (spec.begun opened) }

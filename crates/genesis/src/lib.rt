@@ -41,6 +41,7 @@ pub struct Table {
     pub table: Genesis,
 }
 
+#[inline(always)]
 pub fn read(bytes: &[u8]) -> Table
     ensures answer { told result ≡ spec.genesis_of bytes.now }
     ensures table { result.table ≡ table_of bytes.now }

@@ -55,6 +55,7 @@ pub struct Pooled {
 }
 
 // Whether a pool is one that the calls go on with.
+#[inline(always)]
 pub fn fits(opened: Opened, held: Summary, pool: Pool) -> bool
     ensures { result ≡ spec.pool_fits opened held pool }
 {

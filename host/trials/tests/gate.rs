@@ -6,13 +6,14 @@ use std::{env, fs};
 
 use trials::programs::root;
 
-const CI: &str = "echo 'rt: ok, 23 crates proved'; echo '65 passed, 0 failed'";
+const CI: &str = "echo 'rt: ok; handles allowed: none; must-fail edits: 42 refused; every proof and must-fail edit was done in this run'; \
+    echo '65 passed, 0 failed'";
 const TESTS: &str = "echo 'test result: ok. 139 passed; 0 failed; 0 ignored'; \
     echo 'test result: ok. 0 passed; 0 failed; 0 ignored'; echo 'test result: ok. 5 passed; 0 failed; 0 ignored'";
 
 /// What the gate uses besides. No other command is to be found, above all no real `cargo`.
-const TOOLS: [&str; 8] = [
-    "awk", "bash", "dirname", "mktemp", "rm", "sh", "tee", "timeout",
+const TOOLS: [&str; 9] = [
+    "awk", "bash", "dirname", "mkdir", "mktemp", "rm", "sh", "tee", "timeout",
 ];
 
 fn found(tool: &str) -> PathBuf {
@@ -21,16 +22,16 @@ fn found(tool: &str) -> PathBuf {
     places.find(|place| place.exists()).expect(tool)
 }
 
-/// A folder with an `rt` whose `ci` and `staticlib` do this, and a `cargo` that does that.
-fn commands(name: &str, ci: &str, staticlib: &str, cargo: Option<&str>) -> PathBuf {
+/// A folder with an `rt` whose `ci` and `lib` do this, a `cargo` that does that, and a `cp` that leaves the archive as it is.
+fn commands(name: &str, ci: &str, lib: &str, cargo: Option<&str>) -> PathBuf {
     let folder = Path::new(env!("CARGO_TARGET_TMPDIR")).join(name);
     let _ = fs::remove_dir_all(&folder);
     fs::create_dir(&folder).unwrap();
     for tool in TOOLS {
         symlink(found(tool), folder.join(tool)).unwrap();
     }
-    let rt = format!("case $1 in ci) {ci} ;; staticlib) {staticlib} ;; esac");
-    for (name, script) in [("rt", Some(&rt[..])), ("cargo", cargo)] {
+    let rt = format!("case $1 in ci) {ci} ;; lib) {lib} ;; esac");
+    for (name, script) in [("rt", Some(&rt[..])), ("cargo", cargo), ("cp", Some(":"))] {
         if let Some(script) = script {
             let path = folder.join(name);
             fs::write(&path, format!("#!/bin/sh\n{script}\n")).unwrap();
@@ -41,8 +42,8 @@ fn commands(name: &str, ci: &str, staticlib: &str, cargo: Option<&str>) -> PathB
 }
 
 /// The gate's last line, and whether it succeeded.
-fn gate(name: &str, ci: &str, staticlib: &str, cargo: Option<&str>) -> (String, bool) {
-    let folder = commands(name, ci, staticlib, cargo);
+fn gate(name: &str, ci: &str, lib: &str, cargo: Option<&str>) -> (String, bool) {
+    let folder = commands(name, ci, lib, cargo);
     let gate = root().join(".ci/run");
     let output = Command::new(gate).env("PATH", folder).output().unwrap();
     let text = String::from_utf8(output.stdout).unwrap();
@@ -61,11 +62,14 @@ fn everything_is_counted() {
 #[test]
 fn every_failure_fails() {
     let crates = "echo 'rt: FAILED: pool issue'; echo '63 passed, 2 failed'; exit 1";
+    let bad_edits = "echo 'rt: ok; handles allowed: none; must-fail edits: 40 refused, 2 bad; every proof and must-fail edit was done in this run'; \
+        echo '63 passed, 0 failed'";
     let tests =
         format!("{TESTS}; echo 'test result: FAILED. 3 passed; 4 failed; 0 ignored'; exit 101");
     let no_tests = "echo 'test result: ok. 0 passed; 0 failed; 0 ignored'";
-    for (name, ci, staticlib, cargo, last) in [
+    for (name, ci, lib, cargo, last) in [
         ("crates", crates, ":", Some(TESTS), "63 passed, 2 failed"),
+        ("edits", bad_edits, ":", Some(TESTS), "63 passed, 2 failed"),
         ("tests", CI, ":", Some(&tests[..]), "212 passed, 4 failed"),
         ("ended", CI, ":", Some("exit 101"), "65 passed, 1 failed"),
         ("broken", "exit 2", ":", Some(TESTS), "0 passed, 1 failed"),
@@ -74,7 +78,7 @@ fn every_failure_fails() {
         ("no_tests", CI, ":", Some(no_tests), "65 passed, 1 failed"),
         ("no_cargo", CI, ":", None, "65 passed, 1 failed"),
     ] {
-        let told = gate(name, ci, staticlib, cargo);
+        let told = gate(name, ci, lib, cargo);
         assert_eq!(told, (last.into(), false), "{name}");
     }
 }

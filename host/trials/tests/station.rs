@@ -1,5 +1,5 @@
 //! The report program against the second implementation: the same input, the same text. Where 01 gives a text by hand it stands here too. The
-//! program is the one that `rt check station` builds, and it must be there.
+//! program is the one that `rt run` builds in `crates/station`, or `rt ci`, and it must be there.
 use std::io::Write;
 use std::process::Stdio;
 use std::thread;
@@ -13,10 +13,10 @@ use trials::rounds::rounds;
 
 /// What the program writes. It need not read all of its input.
 fn printed(input: &[u8]) -> String {
-    let station = root().join("target/bin/station");
+    let station = root().join("crates/station/out/station");
     assert!(
         station.exists(),
-        "no target/bin/station: run `rt check station` first"
+        "no crates/station/out/station: run `rt run` in crates/station first"
     );
     let mut child = program(station)
         .stdin(Stdio::piped())
