@@ -15,7 +15,7 @@ use Rattle.adopt.proofs.judge.Kinds as adopt-judge-kinds
 use Rattle.adopt.proofs.judge.Reads as adopt-judge
 use Rattle.block.proofs.Answers.{block_faithful, body_faithful, place_faithful}
 use Rattle.block.proofs.length.Kinds as block-length-kinds
-use Rattle.block.proofs.length.Reads as block_length_law
+use Rattle.block.proofs.length.Reads as block-length
 use Rattle.block.proofs.none.Kinds as block-no-block-kinds
 use Rattle.block.proofs.none.Reads as block-no-block
 use Rattle.block.proofs.read.Kinds as block-read-block-kinds
@@ -41,7 +41,7 @@ use Rattle.chain.proofs.check.Reads as chain-check
 use Rattle.chain.proofs.delivered.Kinds as chain-delivered-kinds
 use Rattle.chain.proofs.delivered.Reads as chain-delivered
 use Rattle.chain.proofs.held.Kinds as chain-held-kinds
-use Rattle.chain.proofs.held.Reads as Chain-held
+use Rattle.chain.proofs.held.Reads as chain-held
 use Rattle.chain.proofs.hold.Kinds as chain-hold-kinds
 use Rattle.chain.proofs.hold.Reads as chain-hold
 use Rattle.chain.proofs.open.Kinds as chain-open-kinds
@@ -147,7 +147,7 @@ use Rattle.pool.proofs.fits.Reads as pool-fits
 use Rattle.pool.proofs.drop.Kinds as pool-drop-kinds
 use Rattle.pool.proofs.drop.Reads as pool-drop
 use Rattle.pool.proofs.add.Kinds as pool-add-kinds
-use Rattle.pool.proofs.add.Reads as pool_add
+use Rattle.pool.proofs.add.Reads as pool-add
 use Rattle.pool.proofs.take.Kinds as pool-take-kinds
 use Rattle.pool.proofs.take.Reads as pool-take
 use Rattle.printed.proofs.station.Kinds as printed-station-kinds
@@ -159,18 +159,18 @@ use Rattle.report.proofs.report.Kinds as report-kinds
 use Rattle.report.proofs.report.Reads as report
 use Rattle.sha256.proofs.Answers.{digest_faithful}
 use Rattle.sha256.proofs.digest.Kinds as sha256-digest-kinds
-use Rattle.sha256.proofs.digest.Reads as sha256_digest
+use Rattle.sha256.proofs.digest.Reads as sha256-digest
 use Rattle.sha256.proofs.stands_at.Kinds as sha256-stands-at-kinds
 use Rattle.sha256.proofs.stands_at.Reads as sha256-stands-at
 use Rattle.walk.proofs.Answers.{step_faithful}
 use Rattle.walk.proofs.place_after.Kinds as walk-place-after-kinds
 use Rattle.walk.proofs.place_after.Reads as walk-place-after
 use Rattle.walk.proofs.step.Kinds as walk-step-kinds
-use Rattle.walk.proofs.step.Reads as walk_step
+use Rattle.walk.proofs.step.Reads as walk-step
 use Rattle.walk.proofs.walked.Kinds as walked-kinds
 use Rattle.walk.proofs.walked.Reads as walked
 use Rattle.walk.proofs.walked_on.Kinds as walked-on-kinds
-use Rattle.walk.proofs.walked_on.Reads as Walked-on
+use Rattle.walk.proofs.walked_on.Reads as walked-on
 use Rattle.once.proofs.Pairs.{paired}
 
 -- ---- buffer
@@ -200,7 +200,7 @@ pub write_number_leaves_its_buffer_once : OneLater 1 number-write-number-kinds.p
 write_number_leaves_its_buffer_once κs a x y s t p q = p.1 ∙ sym q.1
 
 -- ---- sha256
-pub digest_answers_once : OneAnswer 1 sha256-digest-kinds.ps sha256-digest-kinds.r sha256_digest.Post
+pub digest_answers_once : OneAnswer 1 sha256-digest-kinds.ps sha256-digest-kinds.r sha256-digest.Post
 digest_answers_once κs a x y s t p q = digest_faithful x y (paired (p.0 ∙ sym q.0) (p.1 ∙ sym q.1))
 
 pub stands_at_answers_once : OneAnswer 1 sha256-stands-at-kinds.ps sha256-stands-at-kinds.r sha256-stands-at.Post
@@ -292,11 +292,11 @@ slot_text_answers_once κs a x y s t p q = place_faithful x y (p.0 ∙ sym q.0)
 pub slot_text_leaves_its_buffer_once : OneLater 1 block-slot-text-kinds.ps block-slot-text-kinds.r block-slot-text.Post (λ κs s. s.0.now)
 slot_text_leaves_its_buffer_once κs a x y s t p q = p.1 ∙ sym q.1
 
-pub block_length_answers_once : OneAnswer 0 block-length-kinds.ps block-length-kinds.r block_length_law.Post
+pub block_length_answers_once : OneAnswer 0 block-length-kinds.ps block-length-kinds.r block-length.Post
 block_length_answers_once κs a x y s t p q = p ∙ sym q
 
 -- ---- walk
-pub step_answers_once : OneAnswer 1 walk-step-kinds.ps walk-step-kinds.r walk_step.Post
+pub step_answers_once : OneAnswer 1 walk-step-kinds.ps walk-step-kinds.r walk-step.Post
 step_answers_once κs a x y s t p q = step_faithful x y (paired (p.0 ∙ sym q.0) (p.1 ∙ sym q.1))
 
 pub place_after_answers_once : OneAnswer 1 walk-place-after-kinds.ps walk-place-after-kinds.r walk-place-after.Post
@@ -305,7 +305,7 @@ place_after_answers_once κs a x y s t p q = p ∙ sym q
 pub walked_answers_once : OneAnswer 1 walked-kinds.ps walked-kinds.r walked.Post
 walked_answers_once κs a x y s t p q = step_faithful x y (paired (p.0 ∙ sym q.0) (p.1 ∙ sym q.1))
 
-pub walked_on_answers_once : OneAnswer 1 walked-on-kinds.ps walked-on-kinds.r Walked-on.Post
+pub walked_on_answers_once : OneAnswer 1 walked-on-kinds.ps walked-on-kinds.r walked-on.Post
 walked_on_answers_once κs a x y s t p q = step_faithful x y (paired (p.0 ∙ sym q.0) (p.1 ∙ sym q.1))
 
 -- ---- chain
@@ -315,7 +315,7 @@ open_answers_once κs a x y s t p q = opening_faithful x y (paired (p.0 ∙ sym 
 pub delivered_answers_once : OneAnswer 2 chain-delivered-kinds.ps chain-delivered-kinds.r chain-delivered.Post
 delivered_answers_once κs a x y s t p q = passed_faithful x y (paired (p.0 ∙ sym q.0) (p.1 ∙ sym q.1))
 
-pub held_answers_once : OneAnswer 1 chain-held-kinds.ps chain-held-kinds.r Chain-held.Post
+pub held_answers_once : OneAnswer 1 chain-held-kinds.ps chain-held-kinds.r chain-held.Post
 held_answers_once κs a x y s t p q = passed_faithful x y (paired (p.0 ∙ sym q.0) (p.1 ∙ sym q.1))
 
 pub hold_answers_once : OneAnswer 2 chain-hold-kinds.ps chain-hold-kinds.r chain-hold.Post
@@ -356,7 +356,7 @@ take_answers_once κs a x y s t p q = p ∙ sym q
 pub drop_answers_once : OneAnswer 2 pool-drop-kinds.ps pool-drop-kinds.r pool-drop.Post
 drop_answers_once κs a x y s t p q = pooled_faithful x y (paired (p.0 ∙ sym q.0) (p.1 ∙ sym q.1))
 
-pub add_answers_once : OneAnswer 2 pool-add-kinds.ps pool-add-kinds.r pool_add.Post
+pub add_answers_once : OneAnswer 2 pool-add-kinds.ps pool-add-kinds.r pool-add.Post
 add_answers_once κs a x y s t p q = pooled_faithful x y (paired (p.0 ∙ sym q.0) (p.1 ∙ sym q.1))
 
 -- ---- issue
