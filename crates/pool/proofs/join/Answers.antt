@@ -22,7 +22,7 @@ pub with_last-joined-requires : goal.with_last-joined-requires
 with_last-joined-requires c =
     let a = c.args in
     let present = entries_in a.pool in
-    let own : share_of a.depot present < depot_room = omega (arith, c.of_depot.ensures, c.if-of_depot-ge-DEPOT_ROOM.false) in
+    let own : share_of a.depot present < depot_room = omega (arith, c.of_depot.ensures) in
     let less : length present < room =
     room_left present a.depot (present_known a.opened.clock.0 a.pool c.requires) (present_shares a.opened.clock.0 a.pool c.requires)
     c.if-depot-ge-DEPOTS.false own in
@@ -34,7 +34,7 @@ returns c =
     let before = a.held.whole.releases in
     let kept : List Entry = counting a.held a.pool in
     let present : List Entry = entries_in a.pool in
-    let own : share_of a.depot present < depot_room = omega (arith, c.of_depot.ensures, c.if-of_depot-ge-DEPOT_ROOM.false) in
+    let own : share_of a.depot present < depot_room = omega (arith, c.of_depot.ensures) in
     let less : length present < room =
     room_left present a.depot (present_known a.opened.clock.0 a.pool c.requires) (present_shares a.opened.clock.0 a.pool c.requires)
     c.if-depot-ge-DEPOTS.false own in
