@@ -68,7 +68,7 @@ pub struct Walk<'a> {
     pub at: usize,
 }
 
-// No branch stands here: a proof over a held slice is by hand, and `step` and `place_after` decide.
+// No branch stands here: `step` and `place_after` decide.
 impl<'a> Walk<'a> {
     pub fn new(chain: &'a [u8], at: usize) -> Walk<'a>
         ensures { (result.chain ≡ chain.entry) × (result.at ≡ at) }
