@@ -1,4 +1,3 @@
-pub mod Answers
 pub mod Groups
 pub mod Written
 pub mod RoundTrip

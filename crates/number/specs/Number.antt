@@ -2,11 +2,7 @@
 -- Assumes nothing.
 use Rattle.std.specs.Prelude.{ℕ, zero, suc, ◌+◌, ◌*◌, ◌/◌, ◌%◌, List, [], ◌∷◌, length, get_or, ltb}
 use Rattle.laws.specs.Pick.{pick}
-use Rattle.laws.specs.Told.{Told, gives, refuses, Found, found, then, unless}
-use Rattle.number.specs.declared.Reading.{Reading}
-use Rattle.number.specs.declared.Reading.TheVariants.{Value, Cut, Badly}
-use Rattle.number.specs.declared.Writing.{Writing}
-use Rattle.number.specs.declared.Writing.TheVariants.{Next, Large, Short}
+use Rattle.laws.specs.Told.{Told, refuses, Found, found, then, unless}
 
 -- 02, b: "Numbers are read and written up to 34,359,738,367"
 abbrev pub largest : ℕ
@@ -36,13 +32,3 @@ read_groups (suc k) s at =
 -- the number at a place of a slice, and the next place; 3: cut; 4: not shortest, or too large
 unfoldable pub number_at : List ℕ → ℕ → Told (Found ℕ)
 number_at s at = read_groups 5 s at
-
-abbrev pub told : Reading → Told (Found ℕ)
-told (Value v n) = found v n
-told Cut = refuses 3 0
-told Badly = refuses 4 0
-
-abbrev pub told_writing : Writing → Told ℕ
-told_writing (Next next) = gives next
-told_writing Large = refuses 4 0
-told_writing Short = refuses 15 0

@@ -4,41 +4,35 @@
 ghost use Rattle.std.specs.Prelude.{◌≡◌, ◌+◌, ◌<◌, ◌≤◌, leb, length};
 ghost use Rattle.std.proofs.lemmas.List.Edits.{sets};
 ghost use Rattle.laws.specs.Placed.{placed_if, placing_if};
-ghost use Rattle.number.specs.Number.{largest, written, read_groups, number_at, told, told_writing};
+ghost use Rattle.number.specs.Number.{largest, written, read_groups, number_at};
 ghost use Rattle.number.specs.Steps.{finished};
+ghost use Rattle.refusal.specs.Answers.{told, told_found};
+
+use buffer::fits;
+use refusal::Refusal;
 
 pub type Number = u64;
 
 pub const LARGEST: Number = 34359738367;
 
-// What reading finds.
-#[derive(Drop)]
-pub enum Reading {
-    // the number, and the place after it
-    Value(Number, usize),
-    // the slice ends before the number does
-    Cut,
-    // not the shortest form, or too large
-    Badly,
-}
-
-pub fn read(s: &[u8], at: usize) -> Reading
-    ensures { told result ≡ number_at s.now at }
+// The number at a place of a slice, and the place after it.
+pub fn read(s: &[u8], at: usize) -> Result<(Number, usize), Refusal>
+    ensures { told_found result ≡ number_at s.now at }
 {
     if s.len() <= at {
-        return Reading::Cut;
+        return Err(Refusal::Cut);
     }
     let first = s[at] as Number;
     if first < 128 {
-        return Reading::Value(first, at + 1);
+        return Ok((first, at + 1));
     }
     rest(s, at + 1, first % 128)
 }
 
 // The number whose lowest group is `low` and whose other groups, four at most, begin at `from`.
-fn rest(s: &[u8], from: usize, low: Number) -> Reading
+fn rest(s: &[u8], from: usize, low: Number) -> Result<(Number, usize), Refusal>
     requires { low < 128 }
-    ensures { told result ≡ finished low 128 (read_groups 4 s.now from) }
+    ensures { told_found result ≡ finished low 128 (read_groups 4 s.now from) }
 {
     let mut at = from;
     let mut value = low;
@@ -46,21 +40,21 @@ fn rest(s: &[u8], from: usize, low: Number) -> Reading
     let mut groups: usize = 1;
     while groups < 5 {
         if s.len() <= at {
-            return Reading::Cut;
+            return Err(Refusal::Cut);
         }
         let group = s[at] as Number;
         at += 1;
         if group == 0 {
-            return Reading::Badly;
+            return Err(Refusal::BadNumber);
         }
         if group < 128 {
-            return Reading::Value(value + group * scale, at);
+            return Ok((value + group * scale, at));
         }
         value += group % 128 * scale;
         scale *= 128;
         groups += 1;
     }
-    Reading::Badly
+    Err(Refusal::BadNumber)
 }
 
 // How many bytes a number takes.
@@ -80,30 +74,20 @@ pub fn length(value: Number) -> usize
     }
 }
 
-// What writing finds.
-#[derive(Drop)]
-pub enum Writing {
-    // the place after the number
-    Next(usize),
-    // above the largest: no byte was changed
-    Large,
-    // the buffer is too short: no byte was changed
-    Short,
-}
-
-pub fn write(out: &mut [u8], at: usize, value: Number) -> Writing
-    ensures answer { told_writing result ≡ placed_if (leb value largest) 4 out.old at (written value) }
+// Writes a number at a place, and answers the place after it. Where it is too large or does not fit no byte is changed.
+pub fn write(out: &mut [u8], at: usize, value: Number) -> Result<usize, Refusal>
+    ensures answer { told result ≡ placed_if (leb value largest) 4 out.old at (written value) }
     ensures buffer { out.new ≡ placing_if (leb value largest) out.old at (written value) }
 {
     if LARGEST < value {
-        return Writing::Large;
+        return Err(Refusal::BadNumber);
     }
     let size = length(value);
-    if !buffer::fits(out.len(), at, size) {
-        return Writing::Short;
+    if !fits(out.len(), at, size) {
+        return Err(Refusal::ShortBuffer);
     }
     put(out, at, value);
-    Writing::Next(at + size)
+    Ok(at + size)
 }
 
 // Writes a number for which there is room.

@@ -9,28 +9,27 @@ use number::{LARGEST, Number};
 
 // A slot, or a block's slot stamp.
 #[repr(C)]
-#[derive(Clone, Copy)]
+#[derive(Clone, Copy, Debug, PartialEq, Eq, PartialOrd, Ord)]
 pub struct Slot(pub u32);
 
 // A number of blocks.
 #[repr(C)]
-#[derive(Clone, Copy)]
+#[derive(Clone, Copy, Debug, PartialEq, Eq, PartialOrd, Ord)]
 pub struct BlockCount(pub u32);
 
-// The comparisons of the two kinds stand here and nowhere else. Outside this crate no slot and no count is unwrapped to be compared, so that a
-// stamp where a count is meant is an error of types.
+// Outside this crate no slot and no count is unwrapped to be compared, so that a stamp where a count is meant is an error of types.
 
 // Whether a chain of `count` blocks has more than one of `than`.
 pub fn more(count: BlockCount, than: BlockCount) -> bool
     ensures { result ≡ ltb than.0 count.0 }
 {
-    than.0 < count.0
+    than < count
 }
 
 pub fn earlier(slot: Slot, than: Slot) -> bool
     ensures { result ≡ ltb slot.0 than.0 }
 {
-    slot.0 < than.0
+    slot < than
 }
 
 // Whether a slot is one of those from 1 to a last one.
@@ -44,21 +43,22 @@ pub fn in_run(slot: Slot, last: Slot) -> bool
 pub fn within(least: Number, value: Number, most: Number) -> bool
     ensures { result ≡ spec.within least most value }
 {
-    least <= value && value <= most
+    (least..=most).contains(&value)
 }
 
 // How many slots from 1 on lie before one. Slot 0 is answered as slot 1 is.
 pub fn slots_before(slot: Slot) -> u32
     ensures { result ≡ slot.0 - 1 }
 {
-    if slot.0 == 0 { 0 } else { slot.0 - 1 }
+    slot.0.saturating_sub(1)
 }
 
-// Whether a slot lies more than so many slots before the clock's. The difference is taken, since a sum might not fit.
+// Whether a slot lies more than so many slots before the clock's. The difference is taken, since a sum might not fit. No slot lies before one
+// that is later than it.
 pub fn more_slots_ago(slot: Slot, slots: u64, clock: Slot) -> bool
     ensures { result ≡ ltb (slot.0 + slots) clock.0 }
 {
-    slot.0 < clock.0 && slots < (clock.0 - slot.0) as u64
+    slots < clock.0.saturating_sub(slot.0) as u64
 }
 
 // A layout release, at most the largest number.
@@ -72,7 +72,7 @@ pub const LAST_DISPLAY: u32 = 63;
 pub const LAST_SLOT: u32 = 256;
 
 #[repr(C)]
-#[derive(Clone, Copy)]
+#[derive(Clone, Copy, Debug, Default, PartialEq, Eq)]
 pub struct Order {
     pub display: u32,
     // the release that the display is to have before
@@ -85,20 +85,13 @@ pub struct Order {
 pub fn in_range(order: Order) -> bool
     ensures { result ≡ order_in_range order }
 {
-    if LAST_DISPLAY < order.display {
-        return false;
-    }
-    order.expected <= LARGEST && order.new <= LARGEST
+    order.display <= LAST_DISPLAY && order.expected <= LARGEST && order.new <= LARGEST
 }
 
 pub fn valid(releases: &[Release; 64], order: Order) -> bool
     ensures { result ≡ is_valid releases.now order }
 {
-    let display = order.display as usize;
-    if DISPLAYS <= display {
-        return false;
-    }
-    releases[display] == order.expected && order.expected < order.new
+    releases.get(order.display as usize) == Some(&order.expected) && order.expected < order.new
 }
 
 // Takes an order if it is valid, and says whether it was.
@@ -106,10 +99,9 @@ pub fn take(releases: &mut [Release; 64], order: Order) -> bool
     ensures value { result ≡ is_valid releases.old order }
     ensures releases_after { releases.new ≡ taken releases.old order }
 {
-    if valid(&*releases, order) {
-        let display = order.display as usize;
-        releases[display] = order.new;
-        return true;
+    let valid = valid(&*releases, order);
+    if valid {
+        releases[order.display as usize] = order.new;
     }
-    false
+    valid
 }
