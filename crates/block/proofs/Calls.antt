@@ -9,9 +9,9 @@ use native.Mathlib.Omega.{arith}
 use lib.ListN.{length, replicate}
 use lib.Seq.{length-take-le, take-append_seam}
 use borrow.Author.Tests.{le-leb}
+use Rattle.std.specs.List.{list_all}
 use Rattle.laws.specs.Told.{Told, gives, Found, found}
 use Rattle.laws.specs.Bytes.{part}
-use Rattle.laws.specs.Every.{every}
 use Rattle.laws.specs.Tabulate.{Tailed}
 use Rattle.laws.specs.Placed.{placed, placed_if, placing_if}
 use Rattle.laws.specs.Format.{Bytes}
@@ -56,8 +56,8 @@ fit_parts b typed fine =
 parts_fit : (p : Parts) → Fits p → front_fits (block_in p).front ≡ true
 parts_fit p fits =
     let (_, most) = within_true 0 8 (length p.orders) fits.count in
-    let ranged : every order_in_range (unlisted (block_in p).front.orders) ≡ true =
-    ap (every order_in_range) (take-append_seam p.orders _) ∙ each_every order_in_range p.orders fits.orders in
+    let ranged : list_all order_in_range (unlisted (block_in p).front.orders) ≡ true =
+    ap (list_all order_in_range) (take-append_seam p.orders _) ∙ each_every order_in_range p.orders fits.orders in
     rw (le-leb (length p.orders) 8 most, ranged) fits.slot
 
 parts_back : (p : Parts) → parts_in (block_in p) ≡ p

@@ -10,7 +10,8 @@ use lib.Seq.{length-take-le}
 use mathlib.Core.Bool.{Bool, true, false}
 use lib.Dec.{leb}
 use borrow.Author.Tests.{leb-true}
-use Rattle.laws.specs.Every.{both, within, every}
+use Rattle.std.specs.List.{list_all}
+use Rattle.laws.specs.Every.{both, within}
 use Rattle.laws.proofs.Every.{both_true}
 use Rattle.laws.specs.Bytes.{joined}
 use Rattle.laws.specs.Placed.{Room, Wrote}
@@ -68,14 +69,14 @@ module _ (o : Orders) (few : o.count ≤ 8) (whole : length o.list ≡ 8) where
     wrote_more before after = rw begun_more (wrote_then (begun o i) (order_bytes (get_or o.list i no_order)) before after)
 
 -- orders and a slot in their ranges: at most eight orders, each in its own
-pub range_parts : (o : Orders) (slot : ℕ) → in_range o slot ≡ true → (o.count ≤ 8) × (every order_in_range (unlisted o) ≡ true) × (within 1 256 slot ≡ true)
+pub range_parts : (o : Orders) (slot : ℕ) → in_range o slot ≡ true → (o.count ≤ 8) × (list_all order_in_range (unlisted o) ≡ true) × (within 1 256 slot ≡ true)
 range_parts o slot e =
-    let (few, rest) = both_true (leb o.count 8) (both (every order_in_range (unlisted o)) (within 1 256 slot)) e in
-    let (orders, stamp) = both_true (every order_in_range (unlisted o)) (within 1 256 slot) rest in
+    let (few, rest) = both_true (leb o.count 8) (both (list_all order_in_range (unlisted o)) (within 1 256 slot)) e in
+    let (orders, stamp) = both_true (list_all order_in_range (unlisted o)) (within 1 256 slot) rest in
     (leb-true _ _ few, orders, stamp)
 
 -- and so the one at a place of the list
-pub range_at : (o : Orders) (i : ℕ) → every order_in_range (unlisted o) ≡ true → i < o.count → i < length o.list
+pub range_at : (o : Orders) (i : ℕ) → list_all order_in_range (unlisted o) ≡ true → i < o.count → i < length o.list
     → order_in_range (get_or o.list i no_order) ≡ true
 range_at o i all counted inside = by_test (order_in_range (get_or o.list i no_order)) refl
   where

@@ -1,7 +1,8 @@
 -- A block as the code holds it, and its parts.
 -- Assumes nothing.
 use Rattle.std.specs.Prelude.{ℕ, ◌+◌, Bool, List, [], ◌∷◌, ◌++◌, leb, length, replicate}
-use Rattle.laws.specs.Every.{both, within, every}
+use Rattle.std.specs.List.{list_all}
+use Rattle.laws.specs.Every.{both, within}
 use Rattle.laws.specs.Told.{Told, gives, refuses, Found}
 use Rattle.number.specs.Number.{written}
 use Rattle.order.specs.Order.{order_in_range}
@@ -48,7 +49,7 @@ told_block r = told_place (parts_in r.block) r.place
 
 -- what writing judges: "order count, display or slot out of its range", and of the orders "a release above the largest"
 abbrev pub in_range : Orders → ℕ → Bool
-in_range orders slot = both (leb orders.count 8) (both (every order_in_range (unlisted orders)) (within 1 256 slot))
+in_range orders slot = both (leb orders.count 8) (both (list_all order_in_range (unlisted orders)) (within 1 256 slot))
 
 abbrev pub front_fits : Front → Bool
 front_fits f = in_range f.orders f.slot.0

@@ -93,7 +93,7 @@ fn in_range(orders: Orders, slot: Slot) -> bool
 
 fn orders_in_range(orders: Orders) -> bool
     requires { orders.count ≤ 8 }
-    ensures { result ≡ spec.every order_in_range (unlisted orders) }
+    ensures { result ≡ list_all order_in_range (unlisted orders) }
 {
     let count = orders.count as usize;
     let list = orders.list;
@@ -154,7 +154,7 @@ fn put_front(out: &mut [u8], at: usize, front: Front) -> usize
 }
 
 fn put_orders(out: &mut [u8], at: usize, orders: Orders) -> usize
-    requires { (orders.count ≤ 8) × (spec.every order_in_range (unlisted orders) ≡ true) × Room out.old at (orders_bytes (unlisted orders)) }
+    requires { (orders.count ≤ 8) × (list_all order_in_range (unlisted orders) ≡ true) × Room out.old at (orders_bytes (unlisted orders)) }
     ensures { Wrote out.old at (orders_bytes (unlisted orders)) result out.new }
 {
     let count = orders.count as usize;

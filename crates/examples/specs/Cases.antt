@@ -1,7 +1,8 @@
 -- 01, "Worked by hand": "Those marked P, with the seven numbers tabled above (so twelve)", as one list of cases.
 -- Assumes nothing.
 use Rattle.std.specs.Prelude.{ℕ, suc, Bool, true, false, not, List, [], ◌∷◌, eqb, length, replicate}
-use Rattle.laws.specs.Every.{both, every, same}
+use Rattle.std.specs.List.{list_all}
+use Rattle.laws.specs.Every.{both, same}
 use Rattle.laws.specs.Pick.{pick}
 use Rattle.laws.specs.Told.{Told, gives, refuses, Found}
 use Rattle.laws.specs.Tabulate.{tabulate}
@@ -32,7 +33,7 @@ reads_as value next (refuses n place) = false
 
 abbrev pub holds : Case → Bool
 holds (number value bytes) = both (same (written value) bytes) (reads_as value (length bytes) (number_at bytes 0))
-holds (turns n slots controller) = every (λ slot. eqb (turn (table n 0) slot) controller) slots
+holds (turns n slots controller) = list_all (λ slot. eqb (turn (table n 0) slot) controller) slots
 holds (stamp n t clock slot settled) = pick settled (settles (opened n t clock) slot) (not (settles (opened n t clock) slot))
 
 -- slots 1 to 256

@@ -1,6 +1,5 @@
 pub mod Faults
 pub mod Sound
-pub mod Answers
 pub mod Lengths
 pub mod Theorems
 pub mod Depths

@@ -38,13 +38,17 @@ table_at s h releases =
     unless (both (rules h) (ended s (releases.next + 32 * h.n))) 1 0
     (gives (table_with h.n h.t h.u releases.value releases.next))
 
+-- the table, or the first fault
+abbrev pub table_in : List ℕ → Told Genesis
+table_in s = then (head_at s) λ h. then (repeated number_at 64 s h.next) λ releases. table_at s h.value releases
+
 -- every fault of a genesis is refusal 1
 abbrev pub faulty : {A : Type 0} → Told A → Told A
 faulty (gives a) = gives a
 faulty (refuses number place) = refuses 1 0
 
 unfoldable pub genesis_of : List ℕ → Told Genesis
-genesis_of s = faulty (then (head_at s) λ h. then (repeated number_at 64 s h.next) λ releases. table_at s h.value releases)
+genesis_of s = faulty (table_in s)
 
 -- "The turn in slot j belongs to controller i with i − 1 = (j − 1) mod n." A table of no controllers has no turns
 abbrev pub turn : Genesis → ℕ → ℕ

@@ -11,7 +11,8 @@ use lib.Dec.{ltb}
 use lib.ListN.{length, take, get_or, set, replicate, length-set}
 use lib.Seq.{take-suc, take-suc-set, take_all, take-append-add, take-append_seam}
 use borrow.Author.Tests.{le-leb}
-use Rattle.laws.specs.Every.{within, every}
+use Rattle.std.specs.List.{list_all}
+use Rattle.laws.specs.Every.{within}
 use Rattle.laws.specs.Tabulate.{tailed}
 use Rattle.laws.specs.Format.{Each}
 use Rattle.order.specs.Order.{order_in_range}
@@ -78,8 +79,8 @@ module _ (o : Opened) (held : Summary) (pool : Pool) where
     pub next_fits : (signature : List ℕ) → within 1 256 o.clock.0 ≡ true → front_fits (next_front o held pool signature) ≡ true
     next_fits signature slot =
         let l = taken held pool in
-        let all : every order_in_range (unlisted (listed l)) ≡ true =
-        ap (every order_in_range) (take-append_seam l _) ∙ each_every order_in_range l taken_in_range in
+        let all : list_all order_in_range (unlisted (listed l)) ≡ true =
+        ap (list_all order_in_range) (take-append_seam l _) ∙ each_every order_in_range l taken_in_range in
         rw (le-leb (length l) 8 taken_fine.few, all) slot
 
 -- every call is opened at a slot from 1 to 256

@@ -5,9 +5,8 @@ use mathlib.Core.Path.{◌≡◌, refl}
 use mathlib.Core.Bool.{Bool, true, false}
 use mathlib.Core.List.{List, [], ◌∷◌, ◌++◌}
 use lib.ListN.{take}
+use Rattle.std.specs.List.{filter, list_all}
 use Rattle.laws.specs.Pick.{pick}
-use Rattle.laws.specs.Every.{every}
-use Rattle.laws.specs.Fold.{those}
 use Rattle.laws.specs.Format.{Each}
 use Rattle.laws.proofs.Every.{both_true}
 
@@ -30,11 +29,11 @@ module _ {A : Type 0} where
     each_take (suc n) [] each = tt
     each_take (suc n) (a ∷ l) (here, rest) = (here, each_take n l rest)
 
-    pub each_those : (test : A → Bool) (l : List A) → Each P l → Each P (those test l)
+    pub each_those : (test : A → Bool) (l : List A) → Each P l → Each P (filter test l)
     each_those test [] each = tt
     each_those test (a ∷ l) (here, rest) = by_test (test a) (each_those test l rest)
       where
-        by_test : (β : Bool) → Each P (those test l) → Each P (pick β (a ∷ those test l) (those test l))
+        by_test : (β : Bool) → Each P (filter test l) → Each P (pick β (a ∷ filter test l) (filter test l))
         by_test true more = (here, more)
         by_test false more = more
 
@@ -52,10 +51,10 @@ module _ {A : Type 0} where
 
 -- a test that passes at each value
 module _ {A : Type 0} (test : A → Bool) where
-  pub every_each : (l : List A) → every test l ≡ true → Each (λ a. test a ≡ true) l
+  pub every_each : (l : List A) → list_all test l ≡ true → Each (λ a. test a ≡ true) l
   every_each [] e = tt
-  every_each (a ∷ l) e = let (here, rest) = both_true (test a) (every test l) e in (here, every_each l rest)
+  every_each (a ∷ l) e = let (here, rest) = both_true (test a) (list_all test l) e in (here, every_each l rest)
 
-  pub each_every : (l : List A) → Each (λ a. test a ≡ true) l → every test l ≡ true
+  pub each_every : (l : List A) → Each (λ a. test a ≡ true) l → list_all test l ≡ true
   each_every [] each = refl
   each_every (a ∷ l) (here, rest) = rw here (each_every l rest)

@@ -11,7 +11,8 @@ use borrow.Author.Tests.{le-leb, lt-leb, leb-true, eq-eqb}
 use lib.ListN.{length, get_or, drop, drop_of_length-le}
 use lib.Seq.{drop-cons}
 use native.Mathlib.Numerals.{add-one}
-use Rattle.laws.specs.Every.{both, within, every, same}
+use Rattle.std.specs.List.{list_all}
+use Rattle.laws.specs.Every.{both, within, same}
 
 pub both_left : (a b : Bool) → T (both a b) → T a
 both_left true b t = tt
@@ -21,10 +22,10 @@ pub both_right : (a b : Bool) → T (both a b) → T b
 both_right true b t = t
 both_right false b t = absurd t
 
-pub each : {A : Type 0} (test : A → Bool) (cases : List A) (d : A) → T (every test cases) → (i : ℕ) → i < length cases → T (test (get_or cases i d))
+pub each : {A : Type 0} (test : A → Bool) (cases : List A) (d : A) → T (list_all test cases) → (i : ℕ) → i < length cases → T (test (get_or cases i d))
 each test [] d t i h = absurd (not-suc-le-zero h)
-each test (a ∷ rest) d t zero h = both_left (test a) (every test rest) t
-each test (a ∷ rest) d t (suc i) h = each test rest d (both_right (test a) (every test rest) t) i (le_of_suc-le-suc h)
+each test (a ∷ rest) d t zero h = both_left (test a) (list_all test rest) t
+each test (a ∷ rest) d t (suc i) h = each test rest d (both_right (test a) (list_all test rest) t) i (le_of_suc-le-suc h)
 
 pub same_is : (xs ys : List ℕ) → T (same xs ys) → xs ≡ ys
 same_is [] [] t = refl

@@ -8,21 +8,21 @@ use native.Mathlib.Nat.{not-suc-le-zero, le_of_suc-le-suc, suc-mul}
 use native.Mathlib.Omega.{arith}
 use lib.ListN.{length, take, get_or, length-append}
 use lib.Seq.{take-suc}
-use Rattle.laws.specs.Every.{every}
+use Rattle.std.specs.List.{list_all}
 use Rattle.laws.specs.Bytes.{joined}
 use Rattle.laws.proofs.Every.{both_true, both_false}
 
 module _ {A : Type 0} (test : A → Bool) where
-  pub every_more : (l : List A) (i : ℕ) (d : A) → i < length l → every test (take i l) ≡ true → test (get_or l i d) ≡ true
-      → every test (take (suc i) l) ≡ true
+  pub every_more : (l : List A) (i : ℕ) (d : A) → i < length l → list_all test (take i l) ≡ true → test (get_or l i d) ≡ true
+      → list_all test (take (suc i) l) ≡ true
   every_more [] i d h e t = absurd (not-suc-le-zero h)
   every_more (a ∷ rest) zero d h e t = rw t
   every_more (a ∷ rest) (suc i) d h e t =
-      let (fine, others) = both_true (test a) (every test (take i rest)) e in
+      let (fine, others) = both_true (test a) (list_all test (take i rest)) e in
       rw fine (every_more rest i d (le_of_suc-le-suc h) others t)
 
   -- one that fails is enough
-  pub every_fails : (l : List A) (count i : ℕ) (d : A) → i < length l → i < count → test (get_or l i d) ≡ false → every test (take count l) ≡ false
+  pub every_fails : (l : List A) (count i : ℕ) (d : A) → i < length l → i < count → test (get_or l i d) ≡ false → list_all test (take count l) ≡ false
   every_fails [] count i d h k t = absurd (not-suc-le-zero h)
   every_fails (a ∷ rest) zero i d h k t = absurd (not-suc-le-zero k)
   every_fails (a ∷ rest) (suc count) zero d h k t = rw t

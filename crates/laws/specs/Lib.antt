@@ -8,6 +8,5 @@ pub mod Answers
 pub mod Repeated
 pub mod Bytes
 pub mod Run
-pub mod Fold
 pub mod NoChoice
 pub mod Depth

@@ -1,7 +1,6 @@
 -- A choice by a test: `pick test then else`.
 -- Assumes nothing.
-use Rattle.std.specs.Prelude.{Bool, true, false}
+use Rattle.std.specs.Prelude.{Bool, cond}
 
 abbrev pub pick : {A : Type 0} → Bool → A → A → A
-pick true a b = a
-pick false a b = b
+pick test a b = cond test a b

@@ -9,9 +9,9 @@ use native.Mathlib.Omega.{arith}
 use lib.Dec.{ltb, eqb}
 use lib.ListN.{length, get_or, set, length-set}
 use borrow.Author.Tests.{eqb-true, eqb-false, eq-eqb}
+use Rattle.std.specs.List.{filter}
 use Rattle.laws.specs.Told.{Told, gives, unless}
 use Rattle.laws.specs.Every.{both}
-use Rattle.laws.specs.Fold.{those}
 use Rattle.laws.proofs.Told.{gives_same, unless_gives}
 use Rattle.order.specs.Order.{displays, valid, applied, obeyed}
 use Rattle.order.specs.Rearranged.{on}
@@ -40,11 +40,11 @@ set_elsewhere (x ∷ l) (suc at) (suc other) value h = set_elsewhere l at other 
 
 -- what an order that is valid leaves at each display is what one more order of that display's own leaves there
 module _ (releases : List ℕ) (many : length releases ≡ displays) (o : Order) (rest : List Order) (good : valid releases o ≡ true) where
-  pub one_more : (display : ℕ) → own (get_or releases display 0) (those (on display) (o ∷ rest)) ≡ own (get_or (applied releases o) display 0) (those (on display) rest)
+  pub one_more : (display : ℕ) → own (get_or releases display 0) (filter (on display) (o ∷ rest)) ≡ own (get_or (applied releases o) display 0) (filter (on display) rest)
   one_more display = by_test (on display o) refl
     where
       by_test : (β : Bool) → on display o ≡ β
-          → own (get_or releases display 0) (those (on display) (o ∷ rest)) ≡ own (get_or (applied releases o) display 0) (those (on display) rest)
+          → own (get_or releases display 0) (filter (on display) (o ∷ rest)) ≡ own (get_or (applied releases o) display 0) (filter (on display) rest)
       by_test true is =
           let same : o.display ≡ display = eqb-true _ _ is in
           let here : get_or (applied releases o) display 0 ≡ o.new = subst (λ (d : ℕ). get_or (applied releases o) d 0 ≡ o.new) same (set_here releases o.display o.new (omega (arith, (valid_parts releases o good).0))) in
@@ -55,7 +55,7 @@ module _ (releases : List ℕ) (many : length releases ≡ displays) (o : Order)
           rw (is, other)
 
 pub each_display : (releases : List ℕ) (orders : List Order) (after : List ℕ) → length releases ≡ displays → obeyed releases orders ≡ gives after
-    → (display : ℕ) → own (get_or releases display 0) (those (on display) orders) ≡ gives (get_or after display 0)
+    → (display : ℕ) → own (get_or releases display 0) (filter (on display) orders) ≡ gives (get_or after display 0)
 each_display releases [] after many e display = ap (λ (l : List ℕ). gives (get_or l display 0)) (gives_same e)
 each_display releases (o ∷ rest) after many e display =
     let (good, more) = unless_gives (valid releases o) 10 0 _ after e in
@@ -74,7 +74,7 @@ pub record Obeyed (releases : List ℕ) (orders : List Order) (at : ℕ → ℕ)
   pub leaves : (display : ℕ) → get_or after display 0 ≡ at display
 
 pub all_displays : (releases : List ℕ) (orders : List Order) (at : ℕ → ℕ) → length releases ≡ displays
-    → ((display : ℕ) → own (get_or releases display 0) (those (on display) orders) ≡ gives (at display)) → Obeyed releases orders at
+    → ((display : ℕ) → own (get_or releases display 0) (filter (on display) orders) ≡ gives (at display)) → Obeyed releases orders at
 all_displays releases [] at many each = record { after = releases; obeys = refl; leaves = λ display. gives_same (each display) }
 all_displays releases (o ∷ rest) at many each =
     let good = first in
@@ -89,5 +89,5 @@ all_displays releases (o ∷ rest) at many each =
 
     first : valid releases o ≡ true
     first =
-        let e : unless (fine (get_or releases o.display 0) o) 10 0 (own o.new (those (on o.display) rest)) ≡ gives (at o.display) = rw itself at (each o.display) in
+        let e : unless (fine (get_or releases o.display 0) o) 10 0 (own o.new (filter (on o.display) rest)) ≡ gives (at o.display) = rw itself at (each o.display) in
         (unless_gives _ 10 0 _ _ e).0

@@ -1,7 +1,7 @@
 -- 02, h: orders "rearranged with each display's own in their sequence".
 -- Assumes nothing.
 use Rattle.std.specs.Prelude.{ℕ, ◌≡◌, Bool, List, eqb}
-use Rattle.laws.specs.Fold.{those}
+use Rattle.std.specs.List.{filter}
 use Rattle.order.specs.declared.Order.{Order}
 
 abbrev pub on : ℕ → Order → Bool
@@ -9,4 +9,4 @@ on display o = eqb o.display display
 
 -- for every display the two lists have the same orders of that display, in the same sequence
 abbrev pub Rearranged : List Order → List Order → Type 0
-Rearranged xs ys = (display : ℕ) → those (on display) xs ≡ those (on display) ys
+Rearranged xs ys = (display : ℕ) → filter (on display) xs ≡ filter (on display) ys

@@ -7,8 +7,8 @@ use mathlib.Core.List.{List, [], ◌∷◌, ◌++◌}
 use lib.ListN.{length, set, length-append}
 use lib.Seq.{take-append_seam}
 use borrow.Author.Tests.{lt-ltb, le-ltb}
+use Rattle.std.specs.List.{filter}
 use Rattle.laws.specs.Told.{gives, refuses}
-use Rattle.laws.specs.Fold.{those}
 use Rattle.laws.proofs.Fold.{tailed_add}
 use Rattle.order.specs.Order.{order_in_range, valid}
 use Rattle.order.specs.declared.Order.{Order}
@@ -22,16 +22,16 @@ pub entries_of : (l : List Entry) → entries_in (pool_of l) ≡ l
 entries_of l = take-append_seam l _
 
 -- a test that all pass drops none
-pub those_all : {A : Type 0} (l : List A) → those (λ a. true) l ≡ l
+pub those_all : {A : Type 0} (l : List A) → filter (λ a. true) l ≡ l
 those_all [] = refl
 those_all (a ∷ l) = ap (λ rest. a ∷ rest) (those_all l)
 
 -- and what passed a test passes it again
-pub those_twice : {A : Type 0} (test : A → Bool) (l : List A) → those test (those test l) ≡ those test l
+pub those_twice : {A : Type 0} (test : A → Bool) (l : List A) → filter test (filter test l) ≡ filter test l
 those_twice test [] = refl
 those_twice test (a ∷ l) = by_test (test a) refl (those_twice test l)
   where
-    by_test : (β : Bool) → test a ≡ β → those test (those test l) ≡ those test l → those test (those test (a ∷ l)) ≡ those test (a ∷ l)
+    by_test : (β : Bool) → test a ≡ β → filter test (filter test l) ≡ filter test l → filter test (filter test (a ∷ l)) ≡ filter test (a ∷ l)
     by_test true e more = rw (e, e) (ap (λ rest. a ∷ rest) more)
     by_test false e more = rw e more
 

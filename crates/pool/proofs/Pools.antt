@@ -10,10 +10,10 @@ use lib.Dec.{ltb, leb}
 use lib.ListN.{length, take, get_or, set, replicate, length-append, length-map, get_or-map}
 use lib.Seq.{length-take-le}
 use borrow.Author.Tests.{le-leb, lt-leb, lt-ltb, le-ltb}
+use Rattle.std.specs.List.{filter}
 use Rattle.laws.proofs.Every.{both_false}
 use Rattle.pool.specs.Answers.{taken_of}
 use Rattle.laws.specs.Pick.{pick}
-use Rattle.laws.specs.Fold.{those}
 use Rattle.laws.specs.Tabulate.{tailed}
 use Rattle.laws.proofs.Fold.{folded_more, those_one_more, those_no_more, those_fewer, tailed_add, take_least}
 use Rattle.laws.proofs.Cases.{lt_cases}
@@ -48,7 +48,7 @@ reached all most i long p are is inside over =
 -- ---- the entries that count
 pub record Keeping (test : Entry → Bool) (all : List Entry) (most : ℕ) (entries : List Entry) (count i : ℕ) : Type 0 where
   pub inside : i ≤ most
-  pub kept : Listed room no_entry (those test (take i all)) entries count
+  pub kept : Listed room no_entry (filter test (take i all)) entries count
 
 module _ (test : Entry → Bool) (all : List Entry) (most : ℕ) (long : length all ≡ room) (few : most ≤ room) where
   pub keeping_none : Keeping test all most (replicate room no_entry) 0 0
@@ -67,17 +67,17 @@ module _ (test : Entry → Bool) (all : List Entry) (most : ℕ) (long : length 
       keeping_one e = record {
         inside = omega arith;
         kept = rw (those_one_more test all i no_entry inside_all e)
-            (listed_add room no_entry (those test (take i all)) entries count (get_or all i no_entry) keeping.kept (omega (arith, keeping.kept.counts, no_more_than)));
+            (listed_add room no_entry (filter test (take i all)) entries count (get_or all i no_entry) keeping.kept (omega (arith, keeping.kept.counts, no_more_than)));
       }
 
       pub keeping_on : test (get_or all i no_entry) ≡ false → Keeping test all most entries count (i + 1)
       keeping_on e = record { inside = omega arith; kept = rw (those_no_more test all i no_entry inside_all e) keeping.kept }
 
     pub keeping_all : (p : Pool) → p.entries ≡ all → most ≡ pick (leb p.count room) p.count room → most ≤ i
-        → record { count = count; entries = entries } ≡ pool_of (those test (entries_in p))
+        → record { count = count; entries = entries } ≡ pool_of (filter test (entries_in p))
     keeping_all p are is over =
         (λ j. record { count = keeping.kept.counts j; entries = keeping.kept.is j })
-        ∙ ap (λ (l : List Entry). pool_of (those test l)) (reached all most i long p are is keeping.inside over)
+        ∙ ap (λ (l : List Entry). pool_of (filter test l)) (reached all most i long p are is keeping.inside over)
 
 pub least_few : (count : ℕ) → pick (leb count room) count room ≤ room
 least_few count = lt_cases room count (λ more. rw (lt-leb count room more) (omega arith)) (λ few. rw (le-leb count room few) few)

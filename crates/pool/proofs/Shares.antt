@@ -8,7 +8,7 @@ use native.Mathlib.Omega.{arith}
 use lib.Dec.{leb, eqb}
 use lib.ListN.{length, length-append}
 use borrow.Author.Tests.{le-leb, leb-true, eqb-true, eqb-false, eq-eqb}
-use Rattle.laws.specs.Fold.{those}
+use Rattle.std.specs.List.{filter}
 use Rattle.laws.specs.Format.{Each}
 use Rattle.laws.proofs.Cases.{lt_cases}
 use Rattle.laws.proofs.Every.{both_true, both_false}
@@ -40,27 +40,27 @@ shares_are (suc n) l few =
     rw (shares_are n l (λ depot h. few depot (omega arith))) (le-leb (share_of n l) depot_room (few n (omega arith)))
 
 -- of fewer entries no depot has more
-share_fewer : (test : Entry → Bool) (depot : ℕ) (l : List Entry) → share_of depot (those test l) ≤ share_of depot l
+share_fewer : (test : Entry → Bool) (depot : ℕ) (l : List Entry) → share_of depot (filter test l) ≤ share_of depot l
 share_fewer test depot [] = zero-le
 share_fewer test depot (e ∷ l) = by_tests (test e) refl (is_of depot e) refl (share_fewer test depot l)
   where
-    by_tests : (β : Bool) → test e ≡ β → (γ : Bool) → is_of depot e ≡ γ → share_of depot (those test l) ≤ share_of depot l
-        → share_of depot (those test (e ∷ l)) ≤ share_of depot (e ∷ l)
+    by_tests : (β : Bool) → test e ≡ β → (γ : Bool) → is_of depot e ≡ γ → share_of depot (filter test l) ≤ share_of depot l
+        → share_of depot (filter test (e ∷ l)) ≤ share_of depot (e ∷ l)
     by_tests true one true two rest = rw (one, two) (omega (arith, rest))
     by_tests true one false two rest = rw (one, two) rest
     by_tests false one true two rest = rw (one, two) (omega (arith, rest))
     by_tests false one false two rest = rw (one, two) rest
 
-pub fewer_fit : (test : Entry → Bool) (l : List Entry) → shares_fit l ≡ true → shares_fit (those test l) ≡ true
+pub fewer_fit : (test : Entry → Bool) (l : List Entry) → shares_fit l ≡ true → shares_fit (filter test l) ≡ true
 fewer_fit test l fits =
-    shares_are depots (those test l) (λ depot h. omega (arith, share_fewer test depot l, share_at depots depot l h fits))
+    shares_are depots (filter test l) (λ depot h. omega (arith, share_fewer test depot l, share_at depots depot l h fits))
 
 -- one entry more, of a depot with room in its share
 pub one_more_fits : (l : List Entry) (e : Entry) → shares_fit l ≡ true → share_of e.depot l < depot_room → shares_fit (l ++ (e ∷ [])) ≡ true
 one_more_fits l e fits less = shares_are depots (l ++ (e ∷ [])) (λ depot h. by_test depot h (eqb e.depot depot) refl)
   where
     longer : (depot : ℕ) → share_of depot (l ++ (e ∷ [])) ≡ share_of depot l + share_of depot (e ∷ [])
-    longer depot = ap length (those_append (is_of depot) l (e ∷ [])) ∙ length-append (those (is_of depot) l) (those (is_of depot) (e ∷ []))
+    longer depot = ap length (those_append (is_of depot) l (e ∷ [])) ∙ length-append (filter (is_of depot) l) (filter (is_of depot) (e ∷ []))
 
     by_test : (depot : ℕ) → depot < depots → (β : Bool) → eqb e.depot depot ≡ β → share_of depot (l ++ (e ∷ [])) ≤ depot_room
     by_test depot h true is =

@@ -9,10 +9,10 @@ use lib.Dec.{ltb, leb}
 use lib.ListN.{length, length-append, take}
 use lib.Seq.{take_all, length-take-le}
 use borrow.Author.Tests.{ltb-true, leb-true}
+use Rattle.std.specs.List.{fold, list_all}
 use Rattle.laws.specs.Pick.{pick}
 use Rattle.laws.specs.Told.{gives, then, unless}
-use Rattle.laws.specs.Every.{both, within, every}
-use Rattle.laws.specs.Fold.{folded}
+use Rattle.laws.specs.Every.{both, within}
 use Rattle.laws.specs.Format.{Each}
 use Rattle.laws.proofs.Cases.{lt_cases}
 use Rattle.laws.proofs.Every.{both_true}
@@ -55,7 +55,7 @@ module _ (limit : ℕ) (releases : List ℕ) where
           }
       by_test false e = fine
 
-  fine_all : (orders : List Order) (t : Taking) → Fine limit releases t → Fine limit releases (folded (take_one limit) t orders)
+  fine_all : (orders : List Order) (t : Taking) → Fine limit releases t → Fine limit releases (fold (take_one limit) t orders)
   fine_all [] t fine = fine
   fine_all (o ∷ rest) t fine = fine_all rest (take_one limit t o) (fine_one t o fine)
 
@@ -65,7 +65,7 @@ module _ (limit : ℕ) (releases : List ℕ) where
 
 -- what holds of all of them holds of those that are taken
 module _ (P : Order → Type 0) (limit : ℕ) where
-  each_taken : (orders : List Order) (t : Taking) → Each P orders → Each P t.orders → Each P (folded (take_one limit) t orders).orders
+  each_taken : (orders : List Order) (t : Taking) → Each P orders → Each P t.orders → Each P (fold (take_one limit) t orders).orders
   each_taken [] t each so_far = so_far
   each_taken (o ∷ rest) t (here, more) so_far =
       each_taken rest (take_one limit t o) more (by_test (both (ltb (length t.orders) limit) (valid t.releases o)))
@@ -96,7 +96,7 @@ taken_few n l = lt_cases (length l) n (λ less. omega (arith, ap length (take_al
 
 pub entries_parts : (clock : ℕ) (p : Pool) → entries_fit clock p ≡ true → (p.count ≤ room) × Each (λ e. entry_fits clock e ≡ true) (entries_in p)
 entries_parts clock p fits =
-    let (few, all) = both_true (leb p.count room) (every (entry_fits clock) (entries_in p)) fits in
+    let (few, all) = both_true (leb p.count room) (list_all (entry_fits clock) (entries_in p)) fits in
     (leb-true p.count room few, every_each (entry_fits clock) (entries_in p) all)
 
 -- of a pool to which an order may be added

@@ -10,10 +10,10 @@ use native.Mathlib.Omega.{arith}
 use lib.Dec.{ltb, leb}
 use lib.ListN.{length, take, get_or}
 use borrow.Author.Tests.{le-ltb, lt-ltb, ltb-true, le-leb, leb-false}
+use Rattle.std.specs.List.{filter}
 use Rattle.laws.specs.Told.{Told, gives, refuses, then, unless, number_of}
 use Rattle.laws.specs.Every.{both}
 use Rattle.laws.specs.Repeated.{repeated}
-use Rattle.laws.specs.Fold.{those}
 use Rattle.laws.proofs.Cases.{lt_cases}
 use Rattle.laws.proofs.Told.{gives_not_refuses, then_gives, unless_gives}
 use Rattle.laws.proofs.Each.{each_every}
@@ -102,7 +102,7 @@ module _ (genesis : List ℕ) (clock : ℕ) (buffer : List ℕ) (size : ℕ) (po
       )
 
   counted : counting h.1 (pool_of l) ≡ l
-  counted = ap (those (counts h.1)) (entries_of l) ∙ those_twice (counts h.1) (entries_in pool)
+  counted = ap (filter (counts h.1)) (entries_of l) ∙ those_twice (counts h.1) (entries_in pool)
 
   -- refusals past 18 too
   pub and_then_adding_answers_as_pooling_did : added genesis clock buffer size (pool_of l) order depot ≡ offered genesis clock buffer size pool order depot

@@ -1,10 +1,10 @@
 -- 01, "Pool an order": "The pool is up to 64 entries, each an order and its entry slot." 02, d: "Each entry carries its depot, 0 to 3".
 -- Assumes nothing.
 use Rattle.std.specs.Prelude.{ℕ, zero, suc, Bool, true, List, [], ◌∷◌, ◌++◌, map, ltb, leb, eqb, length, take, get_or}
+use Rattle.std.specs.List.{filter, fold, list_all}
 use Rattle.laws.specs.Pick.{pick}
 use Rattle.laws.specs.Told.{Told, gives, then, unless}
-use Rattle.laws.specs.Every.{both, within, every}
-use Rattle.laws.specs.Fold.{folded, those}
+use Rattle.laws.specs.Every.{both, within}
 use Rattle.laws.specs.Tabulate.{tailed}
 use Rattle.order.specs.Order.{order_in_range, valid, applied}
 use Rattle.order.specs.declared.Order.{Order}
@@ -40,14 +40,14 @@ abbrev pub entry_fits : ℕ → Entry → Bool
 entry_fits clock e = both (order_in_range e.order) (both (ltb e.depot depots) (within 1 clock e.slot.0))
 
 abbrev pub entries_fit : ℕ → Pool → Bool
-entries_fit clock p = both (leb p.count room) (every (entry_fits clock) (entries_in p))
+entries_fit clock p = both (leb p.count room) (list_all (entry_fits clock) (entries_in p))
 
 -- how many of some entries are a depot's
 abbrev pub is_of : ℕ → Entry → Bool
 is_of depot e = eqb e.depot depot
 
 abbrev pub share_of : ℕ → List Entry → ℕ
-share_of depot entries = length (those (is_of depot) entries)
+share_of depot entries = length (filter (is_of depot) entries)
 
 -- none of the first depots has more than its share
 abbrev pub shares_below : ℕ → List Entry → Bool
@@ -62,7 +62,7 @@ abbrev pub counts : Summary → Entry → Bool
 counts held e = leb (get_or held.settled.releases e.order.display 0) e.order.expected
 
 abbrev pub counting : Summary → Pool → List Entry
-counting held p = those (counts held) (entries_in p)
+counting held p = filter (counts held) (entries_in p)
 
 -- 18, as a whole; 02, d: or "more than 16 counting entries of one depot"
 abbrev pub pool_fits : Opened → Summary → Pool → Bool
@@ -83,7 +83,7 @@ take_one limit t o =
     (record { orders = t.orders ++ (o ∷ []); releases = applied t.releases o }) t
 
 unfoldable pub taking : ℕ → List ℕ → List Order → Taking
-taking limit releases orders = folded (take_one limit) (record { orders = []; releases = releases }) orders
+taking limit releases orders = fold (take_one limit) (record { orders = []; releases = releases }) orders
 
 -- an order and a depot that may be offered
 abbrev pub offer_fits : Order → ℕ → Bool

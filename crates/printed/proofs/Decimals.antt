@@ -8,8 +8,8 @@ use native.Mathlib.Nat.{pow-suc, div-lt_iff_lt-mul}
 use lib.Dec.{lit<}
 use lib.ListN.{length, length-append, set}
 use borrow.Author.Tests.{lt-ltb, le-ltb}
+use Rattle.std.specs.List.{fold}
 use Rattle.laws.proofs.Cases.{lt_cases}
-use Rattle.laws.specs.Fold.{folded}
 use Rattle.laws.proofs.Fold.{folded_append}
 use Rattle.laws.specs.Placed.{Wrote}
 use Rattle.printed.specs.Decimal.{digit, digits, decimal}
@@ -60,7 +60,7 @@ wrote_one out at byte = record { place = refl; buffer = refl }
 
 -- what digits are worth, and that a number's are worth the number
 abbrev pub worth : List ℕ → ℕ
-worth l = folded (λ value letter. 10 * value + (letter - 48)) 0 l
+worth l = fold (λ value letter. 10 * value + (letter - 48)) 0 l
 
 worth_more : (front : List ℕ) (d : ℕ) → worth (front ++ (digit d ∷ [])) ≡ 10 * worth front + d
 worth_more front d = folded_append (λ (value letter : ℕ). 10 * value + (letter - 48)) 0 front (digit d ∷ []) ∙ omega arith

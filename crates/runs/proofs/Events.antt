@@ -9,8 +9,8 @@ use native.Mathlib.Nat.{zero-add}
 use lib.Dec.{ltb, eqb}
 use lib.ListN.{length, get_or, length-append}
 use borrow.Author.Tests.{lt-ltb, eq-eqb, eqb-true}
+use Rattle.std.specs.List.{fold}
 use Rattle.laws.specs.Told.{gives, unless}
-use Rattle.laws.specs.Fold.{folded}
 use Rattle.laws.specs.Format.{Each}
 use Rattle.laws.proofs.Told.{unless_gives}
 use Rattle.laws.proofs.Each.{each_parts}
@@ -169,7 +169,7 @@ module _ (r : Run) where
       }
 
     pub events_fine : (before middle after : List Event) → r.events i slot ≡ before ++ (middle ++ after) → (s : Node) (blocks : List Parts)
-        → Fine slot slot s blocks → Grown (folded (after_event r.genesis slot) s middle) blocks
+        → Fine slot slot s blocks → Grown (fold (after_event r.genesis slot) s middle) blocks
     events_fine before [] after e s blocks f = record { more = blocks; fine = f; grown = omega arith }
     events_fine before (x ∷ middle) after e s blocks f =
         let g = meets_fine s blocks f x (before, middle ++ after, e) in
@@ -181,16 +181,16 @@ module _ (r : Run) where
     pub delivered_is_held : (b a : List Event) (bytes verdicts : List ℕ) → r.events i slot ≡ b ++ delivery bytes verdicts ∷ a
         → (s : Node) (blocks : List Parts) → Fine slot slot s blocks
         → (others : List Parts) → bytes ≡ chain_bytes others → Valid r others → Below slot others
-        → (last : List Parts) → Fine slot slot (folded (after_event r.genesis slot) s (r.events i slot)) last → length others ≤ length last
+        → (last : List Parts) → Fine slot slot (fold (after_event r.genesis slot) s (r.events i slot)) last → length others ≤ length last
     delivered_is_held b a bytes verdicts e s blocks f others is c below last at-end =
         let x = delivery bytes verdicts in
         let step = after_event r.genesis slot in
         let g = events_fine [] b (x ∷ a) e s blocks f in
-        let m = delivery_fine (folded step s b) g.more g.fine bytes verdicts (b, a, e) in
-        let few = delivery_long (folded step s b) g.more g.fine bytes verdicts (b, a, e) others is c below in
+        let m = delivery_fine (fold step s b) g.more g.fine bytes verdicts (b, a, e) in
+        let few = delivery_long (fold step s b) g.more g.fine bytes verdicts (b, a, e) others is c below in
         let split = e ∙ sym (append_assoc b (x ∷ []) a) ∙ ap (λ (l : List Event). (b ++ (x ∷ [])) ++ l) (sym (append-nil a)) in
-        let g' = events_fine (b ++ (x ∷ [])) a [] split (step (folded step s b) x) m.more m.fine in
-        let node : folded step (step (folded step s b) x) a ≡ folded step s (r.events i slot) = sym (ap (folded step s) e ∙ folded_append step s b (x ∷ a)) in
-        let one = fine_one slot slot slot slot (folded step s (r.events i slot)) g'.more last
+        let g' = events_fine (b ++ (x ∷ [])) a [] split (step (fold step s b) x) m.more m.fine in
+        let node : fold step (step (fold step s b) x) a ≡ fold step s (r.events i slot) = sym (ap (fold step s) e ∙ folded_append step s b (x ∷ a)) in
+        let one = fine_one slot slot slot slot (fold step s (r.events i slot)) g'.more last
         (subst (λ (q : Node). Fine slot slot q g'.more) node g'.fine) at-end in
         omega (arith, few, g'.grown, ap length one)

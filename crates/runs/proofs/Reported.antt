@@ -6,8 +6,8 @@ use mathlib.Core.Bool.{Bool, true, false, not}
 use mathlib.Core.List.{List, ◌∷◌, ◌++◌}
 use native.Mathlib.Omega.{arith}
 use lib.ListN.{length, take, get_or}
+use Rattle.std.specs.List.{fold}
 use Rattle.laws.specs.Told.{gives}
-use Rattle.laws.specs.Fold.{folded}
 use Rattle.laws.specs.Format.{Each}
 use Rattle.laws.proofs.Told.{gives_same, then_gives}
 use Rattle.laws.proofs.Taken.{joined_append}
@@ -160,11 +160,11 @@ module _ (r : Run) (premises : Premises r) where
       → (a : Report) → reports r (turn r.table j) j ≡ gives a
       → (before after : List Event) (verdicts : List ℕ) → r.events i (suc j) ≡ before ++ delivery (issued r j) verdicts ∷ after
       → AdoptedOrEqualled (issued r j) (a.held + 1)
-      (adopts r.genesis (suc j) (folded (after_event r.genesis (suc j)) (after_slot r i j) before) (issued r j) verdicts)
+      (adopts r.genesis (suc j) (fold (after_event r.genesis (suc j)) (after_slot r i j) before) (issued r j) verdicts)
   taken i i-correct j in_run in-run' good a says before after verdicts e =
       subst
       (λ (n : ℕ). AdoptedOrEqualled (issued r j) n
-      (adopts r.genesis (suc j) (folded (after_event r.genesis (suc j)) (after_slot r i j) before) (issued r j) verdicts))
+      (adopts r.genesis (suc j) (fold (after_event r.genesis (suc j)) (after_slot r i j) before) (issued r j) verdicts))
       (issued_count j in_run good a says)
       (answered_at r premises i i-correct j in_run in-run' good before after verdicts e)
 

@@ -9,8 +9,8 @@ use native.Mathlib.Omega.{arith}
 use lib.Dec.{eqb}
 use lib.ListN.{length, length-append}
 use borrow.Author.Tests.{lt-ltb, eq-eqb, eqb-true, eqb-false}
+use Rattle.std.specs.List.{fold}
 use Rattle.laws.specs.Pick.{pick}
-use Rattle.laws.specs.Fold.{folded}
 use Rattle.laws.proofs.Cases.{lt_cases, eq_cases}
 use Rattle.laws.proofs.Every.{within_here}
 use Rattle.laws.proofs.Each.{each_append}
@@ -108,10 +108,10 @@ module _ (r : Run) (premises : Premises r) where
     -- and it is adopted, or as many blocks are held
     pub answered : Issued slot → (b a : List Event) (verdicts : List ℕ) → r.events i (suc slot) ≡ b ++ delivery (issued r slot) verdicts ∷ a
         → AdoptedOrEqualled (issued r slot) (length (blocks_in (issued r slot)))
-        (adopts r.genesis (suc slot) (folded (after_event r.genesis (suc slot)) (after_slot r i slot) b) (issued r slot) verdicts)
+        (adopts r.genesis (suc slot) (fold (after_event r.genesis (suc slot)) (after_slot r i slot) b) (issued r slot) verdicts)
     answered it b a verdicts e =
         let chain = it.before ++ (it.block ∷ []) in
-        let s = folded (after_event r.genesis (suc slot)) (after_slot r i slot) b in
+        let s = fold (after_event r.genesis (suc slot)) (after_slot r i slot) b in
         let g = events_fine r premises i is_correct (suc slot) in_run [] b (delivery (issued r slot) verdicts ∷ a) e (after_slot r i slot) before.blocks begins in
         subst (λ (n : ℕ). AdoptedOrEqualled (issued r slot) n (adopts r.genesis (suc slot) s (issued r slot) verdicts)) (sym (ap length (issued_blocks slot it)))
         (delivery_answer r premises i is_correct (suc slot) in_run s g.more g.fine (issued r slot) verdicts (b, a, e) chain it.is it.valid
@@ -248,7 +248,7 @@ module _ (r : Run) (premises : Premises r) where
           own = λ mine. absurd (eqb-false (turn r.table slot) i e mine);
         }
 
-    poolings_after : (rest : List Pooling) (s : Node) → After s → After (folded (λ node p. after_event r.genesis slot node (pooling p)) s rest)
+    poolings_after : (rest : List Pooling) (s : Node) → After s → After (fold (λ node p. after_event r.genesis slot node (pooling p)) s rest)
     poolings_after [] s f = f
     poolings_after (p ∷ rest) s f =
         poolings_after rest (after_event r.genesis slot s (pooling p))
@@ -332,7 +332,7 @@ module _ (r : Run) (premises : Premises r) where
   pub answered_at : (i : ℕ) → correct r i → (slot : ℕ) → InRun r slot → InRun r (suc slot) → correct r (turn r.table slot)
       → (b a : List Event) (verdicts : List ℕ) → r.events i (suc slot) ≡ b ++ delivery (issued r slot) verdicts ∷ a
       → AdoptedOrEqualled (issued r slot) (length (blocks_in (issued r slot)))
-      (adopts r.genesis (suc slot) (folded (after_event r.genesis (suc slot)) (after_slot r i slot) b) (issued r slot) verdicts)
+      (adopts r.genesis (suc slot) (fold (after_event r.genesis (suc slot)) (after_slot r i slot) b) (issued r slot) verdicts)
   answered_at i is_correct slot (low, high) in_run good =
       let so_far = upto slot high in
       answered i is_correct slot in_run (so_far.all i is_correct) (so_far.issues_well low good)

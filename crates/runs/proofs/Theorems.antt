@@ -6,8 +6,8 @@ use mathlib.Core.Path.{◌≡◌}
 use mathlib.Core.Bool.{not, false}
 use mathlib.Core.List.{List, ◌∷◌, ◌++◌}
 use lib.ListN.{take, get_or}
+use Rattle.std.specs.List.{fold}
 use Rattle.laws.specs.Told.{gives}
-use Rattle.laws.specs.Fold.{folded}
 use Rattle.laws.specs.Format.{Each}
 use Rattle.genesis.specs.Genesis.{turn}
 use Rattle.order.specs.Order.{valid, obeyed}
@@ -71,7 +71,7 @@ module _ (r : Run) (premises : Premises r) where
       → (a : Report) → reports r (turn r.table j) j ≡ gives a
       → (before after : List Event) (verdicts : List ℕ) → r.events i (suc j) ≡ before ++ delivery (issued r j) verdicts ∷ after
       → AdoptedOrEqualled (issued r j) (a.held + 1)
-      (adopts r.genesis (suc j) (folded (after_event r.genesis (suc j)) (after_slot r i j) before) (issued r j) verdicts)
+      (adopts r.genesis (suc j) (fold (after_event r.genesis (suc j)) (after_slot r i j) before) (issued r j) verdicts)
   an_issued_chain_is_adopted_or_equalled = reported.taken r premises
 
   -- after the deliveries of the next slot each correct controller holds at least one block more than the issuer held

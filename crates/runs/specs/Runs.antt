@@ -2,9 +2,9 @@
 -- not modelled: whatever it sends is a delivery like any other.
 -- Assumes nothing.
 use Rattle.std.specs.Prelude.{ℕ, zero, suc, ◌<◌, ◌≤◌, ◌≡◌, Bool, true, false, List, [], ◌∷◌, ◌++◌, eqb, length, take, get_or}
+use Rattle.std.specs.List.{fold}
 use Rattle.laws.specs.Pick.{pick}
 use Rattle.laws.specs.Told.{Told, gives, refuses, given_or}
-use Rattle.laws.specs.Fold.{folded}
 use Rattle.laws.specs.Format.{Bytes, Each}
 use Rattle.order.specs.declared.Order.{Order}
 use Rattle.genesis.specs.Genesis.{genesis_of, turn}
@@ -100,13 +100,13 @@ module _ (r : Run) where
 
   -- "act in every slot: deliveries first", with the pool's calls between them as they come; "then issuing when it is their turn"; then more of these
   abbrev pub after_deliveries : (i slot : ℕ) → Node → Node
-  after_deliveries i slot s = folded (after_event r.genesis slot) s (r.events i slot)
+  after_deliveries i slot s = fold (after_event r.genesis slot) s (r.events i slot)
 
   abbrev pub after_issuing : (i slot : ℕ) → Node → Node
   after_issuing i slot s = pick (eqb (turn r.table slot) i) (issues r.genesis slot i (r.signature i slot) (r.seal i slot) s) s
 
   abbrev pub after_poolings : (i slot : ℕ) → Node → Node
-  after_poolings i slot s = folded (λ node p. after_event r.genesis slot node (pooling p)) s (r.poolings i slot)
+  after_poolings i slot s = fold (λ node p. after_event r.genesis slot node (pooling p)) s (r.poolings i slot)
 
   -- what it keeps when a slot has passed
   unfoldable pub after_slot : (i slot : ℕ) → Node

@@ -8,8 +8,9 @@ use Prim.Native.Nat.{◌≤◌}
 use native.Mathlib.Omega.{arith}
 use lib.Dec.{leb}
 use lib.ListN.{length, get_or, length-append}
+use Rattle.std.specs.List.{list_all}
 use Rattle.laws.specs.Told.{gives}
-use Rattle.laws.specs.Every.{every, within}
+use Rattle.laws.specs.Every.{within}
 use Rattle.laws.specs.Run.{run}
 use Rattle.laws.specs.Placed.{placed_if, placing_if}
 use Rattle.number.specs.Number.{largest, groups, written, number_at, read_groups}
@@ -190,24 +191,24 @@ appending_touches =
 -- ---- "one that checks the first block fully and nods the later ones through": whatever is wrong with the second block, 3 to 8. For every chain and
 -- every refusal it is `the_first_bad_block_is_refused` of crate chain
 pub the_second_block_is_judged_as_the_first_is :
-    every (λ s. refused_as s.number 2 (checked genesis 4 (first ++ s.bytes) s.verdicts)) seconds ≡ true
+    list_all (λ s. refused_as s.number 2 (checked genesis 4 (first ++ s.bytes) s.verdicts)) seconds ≡ true
 unfolding delivered_chain run judged block_at number_at read_groups
 the_second_block_is_judged_as_the_first_is =
-    ap (λ t. every (λ s. refused_as s.number 2 (check_from (first ++ s.bytes) s.verdicts t)) seconds) (opens 4 refl)
+    ap (λ t. list_all (λ s. refused_as s.number 2 (check_from (first ++ s.bytes) s.verdicts t)) seconds) (opens 4 refl)
 
 -- of adoption and of the choice, which hang on this
 pub the_second_block_to_adopt_is_judged_as_the_first_is :
-    every (λ s. refused_as s.number 2 (accepted genesis 4 ([]) 0 (first ++ s.bytes) s.verdicts)) seconds ≡ true
+    list_all (λ s. refused_as s.number 2 (accepted genesis 4 ([]) 0 (first ++ s.bytes) s.verdicts)) seconds ≡ true
 unfolding accepted held_chain delivered_chain run judged block_at number_at read_groups
 the_second_block_to_adopt_is_judged_as_the_first_is =
-    ap (λ t. every (λ s. refused_as s.number 2 (accepted_from [] 0 (first ++ s.bytes) s.verdicts t)) seconds) (opens 4 refl)
+    ap (λ t. list_all (λ s. refused_as s.number 2 (accepted_from [] 0 (first ++ s.bytes) s.verdicts t)) seconds) (opens 4 refl)
 
 -- of the held chain, with which every call on it begins
 pub the_second_held_block_is_judged_as_the_first_is :
-    every (λ b. refused_as 17 2 (holding genesis 4 (first ++ b) (length (first ++ b)))) held_seconds ≡ true
+    list_all (λ b. refused_as 17 2 (holding genesis 4 (first ++ b) (length (first ++ b)))) held_seconds ≡ true
 unfolding held_chain run judged block_at number_at read_groups
 the_second_held_block_is_judged_as_the_first_is =
-    ap (λ t. every (λ b. refused_as 17 2 (holding_from (first ++ b) (length (first ++ b)) t)) held_seconds) (opens 4 refl)
+    ap (λ t. list_all (λ b. refused_as 17 2 (holding_from (first ++ b) (length (first ++ b)) t)) held_seconds) (opens 4 refl)
 
 -- ---- "one that invents the held or settled count": the named block, stamped 1, is settled from slot 3 on
 pub no_block_is_no_block : counts_of (reported genesis 3 first 0) ≡ gives (0, 0)

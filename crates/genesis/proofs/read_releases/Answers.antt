@@ -1,47 +1,37 @@
 -- `genesis::read_releases` meets its contract.
 -- Assumes nothing.
 use mathlib.Core.Path.{◌≡◌, refl, sym, ap, ◌∙◌}
+use Rattle.std.proofs.lemmas.Result.{err_from_is_err_and}
 use native.Mathlib.Omega.{arith}
-use lib.Dec.{lit≤}
 use lib.ListN.{take, replicate, length-set}
 use lib.Seq.{take_all}
-use Rattle.laws.specs.Told.{found}
+use Rattle.laws.specs.Told.{found, refuses}
 use Rattle.laws.proofs.Repeated.{into_none, into_next, into_refused, into_all}
 use Rattle.number.specs.Number.{number_at}
-use Rattle.number.proofs.Answers.{not_a_value}
-use Rattle.genesis.specs.Genesis.{faulty}
 use Rattle.genesis.proofs.read_releases.Goals as goal
 
-pub loop-i-init : goal.loop-i-init
-loop-i-init c = let a = c.args in (lit≤ tt, refl, into_none number_at a.bytes.now a.at 64 (replicate 64 0))
+pub loop-release-init : goal.loop-release-init
+loop-release-init c = (refl, into_none number_at c.args.bytes.now c.args.at 64 (replicate 64 0))
 
-pub returns-in_default : goal.returns-in_default
-returns-in_default c =
-    let loop = c.loop-i in
-    let a = c.args in
-    let (number, refused) = not_a_value c.read.result c.in_default.not-Value in
-    let told = sym c.read.ensures ∙ refused in
-    let all = into_refused number_at a.bytes.now a.at 64 loop.releases loop.i loop.place loop.invariant.2 number 0
-    c.loop-i-test.true told in
-    sym (ap faulty all)
+pub returns-in_err-release : goal.returns-in_err-release
+returns-in_err-release c =
+    let loop = c.loop-release in
+    let p = err_from_is_err_and c.from_residual.result c.from_residual.ensures.1 in
+    rw (p.1, p.2)
+    (sym (into_refused number_at c.args.bytes.now c.args.at 64 loop.release-items loop.release-index loop.place loop.invariant.1 _ 0
+    (omega (arith, loop.invariant.0, c.loop-release-test.true)) (sym (c.in_err-release.ensures))))
 
-pub loop-i-preserved : goal.loop-i-preserved
-loop-i-preserved c =
-    let loop = c.loop-i in
-    let a = c.args in
-    let value = c.in-Value.release in
-    let next = c.in-Value.next in
-    let told : number_at a.bytes.now loop.place ≡ found value next = sym (rw c.in-Value.is at c.read.ensures) in (
-      omega arith,
-      simp length-set loop.invariant.1,
-      into_next number_at a.bytes.now a.at 64 loop.releases loop.i loop.place loop.invariant.2 value next
-          c.loop-i-test.true (omega arith) told,
-    )
+pub loop-release-preserved : goal.loop-release-preserved
+loop-release-preserved c =
+    let loop = c.loop-release in
+    let told : number_at c.args.bytes.now loop.place ≡ found c.in_ok-release.field-0-0 c.in_ok-release.field-0-1 = sym (c.in_ok-release.ensures) in
+    (simp length-set loop.invariant.0,
+    into_next number_at c.args.bytes.now c.args.at 64 loop.release-items loop.release-index loop.place loop.invariant.1 c.in_ok-release.field-0-0
+        c.in_ok-release.field-0-1 (omega (arith, loop.invariant.0, c.loop-release-test.true)) (omega (arith, loop.invariant.0, c.loop-release-test.true)) told)
 
 pub returns : goal.returns
 returns c =
-    let loop = c.loop-i in
-    let a = c.args in
-    let all = into_all number_at a.bytes.now a.at 64 loop.releases loop.i loop.place loop.invariant.2 (omega arith) in
-    let whole : take 64 loop.releases ≡ loop.releases = take_all 64 loop.releases (omega arith) in
-    sym (ap faulty (rw whole at all))
+    let loop = c.loop-release in
+    let all = into_all number_at c.args.bytes.now c.args.at 64 loop.release-items loop.release-index loop.place loop.invariant.1 (omega (arith, loop.invariant.0, c.loop-release-test.false)) in
+    let whole : take 64 loop.release-items ≡ loop.release-items = take_all 64 loop.release-items (omega (arith, loop.invariant.0)) in
+    sym (rw whole at all)

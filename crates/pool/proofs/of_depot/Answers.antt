@@ -7,7 +7,7 @@ use native.Mathlib.Omega.{arith}
 use lib.ListN.{length, length-append, take, get_or}
 use borrow.Author.Tests.{eq-eqb, ne_eqb}
 use borrow.Author.Rules.{rules}
-use Rattle.laws.specs.Fold.{those}
+use Rattle.std.specs.List.{filter}
 use Rattle.laws.proofs.Fold.{those_one_more, those_no_more}
 use Rattle.pool.specs.Pool.{no_entry, is_of}
 use Rattle.pool.proofs.Pools.{least_few}
@@ -23,7 +23,7 @@ loop-i-preserved-then-entry-depot c =
     (eq-eqb _ _ c.if-entry-depot.true) in (
       omega (arith, c.loop-i-test.true),
       omega (arith, loop.invariant.1),
-      omega (arith, loop.invariant.2, ap length more, length-append (those (is_of a.depot) (take loop.i a.pool.entries)) (get_or a.pool.entries loop.i no_entry ∷ [])),
+      omega (arith, loop.invariant.2, ap length more, length-append (filter (is_of a.depot) (take loop.i a.pool.entries)) (get_or a.pool.entries loop.i no_entry ∷ [])),
     )
 
 pub loop-i-preserved : goal.loop-i-preserved
