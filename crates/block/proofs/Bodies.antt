@@ -8,7 +8,7 @@ use native.Mathlib.Nat.{add_assoc}
 use lib.Dec.{leb}
 use lib.ListN.{length}
 use borrow.Author.Tests.{le-leb, lt-leb, leb-true}
-use Rattle.laws.specs.Told.{gives, refuses, Found, found, then, unless}
+use Rattle.laws.specs.Told.{gives, refuses, Found, found, found_as, then, unless}
 use Rattle.laws.specs.Bytes.{part, bytes_at}
 use Rattle.laws.specs.Every.{within}
 use Rattle.laws.proofs.Cases.{lt_cases}
@@ -19,22 +19,18 @@ use Rattle.number.proofs.Groups.{number_ends}
 use Rattle.laws.proofs.Told.{then_assoc, then_unless, then_gives, then_refuses, unless_gives, gives_same}
 use Rattle.order.specs.declared.Order.{Order}
 use Rattle.block.specs.Block.{Parts, order_at, orders_at, block_at, number_in}
-use Rattle.block.specs.Steps.{body_at, stamp_at}
+use Rattle.block.specs.Answers.{body_of}
+use Rattle.block.specs.Blocks.{block_in}
+use Rattle.block.specs.Steps.{body_at, block_held, body_held}
 
--- two signatures have room exactly if their 128 bytes have
-two_signatures : {A : Type 0} (size at : ℕ) (a : A)
-    → unless (leb (at + 64) size) 3 0 (unless (leb (at + 64 + 64) size) 3 0 (found a (at + 64 + 64)))
-    ≡ unless (leb (at + 128) size) 3 0 (found a (at + 128))
-two_signatures size at a =
-    rw (add_assoc at 64 64)
-    (lt_cases size (at + 64)
-    (λ cut. let over : size < at + 128 = omega arith in simp (lt-leb _ _ cut, lt-leb _ _ over))
-    (λ room. simp (le-leb _ _ room)))
-
-pub body_is : (s : List ℕ) (at : ℕ)
-    → body_at s at ≡ unless (leb (at + 32) (length s)) 3 0 (then (orders_at s (at + 32)) λ orders. stamp_at s orders.value orders.next)
+-- the parts are put together as they are read
+pub block_is_held : (s : List ℕ) (at : ℕ) → found_as block_in (block_at s at) ≡ block_held s at
 unfolding block_at
-body_is s at = simp (then_assoc, then_unless, two_signatures)
+block_is_held s at = simp then_assoc
+
+pub body_is_held : (s : List ℕ) (at : ℕ) → found_as body_of (body_at s at) ≡ body_held s at
+unfolding block_at
+body_is_held s at = simp (then_assoc, then_unless)
 
 -- a block that was read, piece by piece
 pub record Pieces (s : List ℕ) (at : ℕ) (b : Found Parts) : Type 0 where

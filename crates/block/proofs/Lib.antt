@@ -1,10 +1,8 @@
 pub mod Bodies
 pub mod Ranges
 pub mod RoundTrip
-pub mod Whole
 pub mod Lists
 pub mod Lengths
 pub mod Theorems
-pub mod Answers
 pub mod Calls
 pub mod Typing

@@ -6,7 +6,7 @@ use Prim.Native.Nat.{ℕ, ◌+◌, ◌<◌, ◌≤◌}
 use native.Mathlib.Omega.{arith}
 use native.Mathlib.Numerals.{add-one}
 use lib.ListN.{length, take, get_or, length-append}
-use lib.Seq.{length-take-le}
+use lib.Seq.{length-take-le, take_all}
 use mathlib.Core.Bool.{Bool, true, false}
 use lib.Dec.{leb}
 use borrow.Author.Tests.{leb-true}
@@ -16,12 +16,13 @@ use Rattle.laws.proofs.Every.{both_true}
 use Rattle.laws.specs.Bytes.{joined}
 use Rattle.laws.specs.Placed.{Room, Wrote}
 use Rattle.laws.proofs.Placed.{wrote_length, wrote_then}
-use Rattle.laws.proofs.Taken.{every_fails, joined_more, joined_less}
+use Rattle.laws.proofs.Taken.{joined_more, joined_less}
+use Rattle.std.proofs.lemmas.List.Folds.{list_all_at}
 use Rattle.number.specs.Number.{written}
 use Rattle.number.proofs.Written.{at_most_five}
 use Rattle.order.specs.Order.{order_in_range}
 use Rattle.order.specs.declared.Order.{Order}
-use Rattle.block.specs.declared.reading.Orders.{Orders}
+use Rattle.block.specs.declared.Orders.{Orders}
 use Rattle.block.specs.Block.{order_bytes, orders_bytes, front_bytes, block_bytes}
 use Rattle.block.specs.Answers.{no_order, unlisted}
 use Rattle.block.specs.Blocks.{parts_in, in_range, front_of}
@@ -36,37 +37,45 @@ order_size o =
 pub order_most : (o : Order) → length (order_bytes o) ≤ 15
 order_most o = omega (arith, order_size o, at_most_five o.display, at_most_five o.expected, at_most_five o.new)
 
-abbrev pub begun : Orders → ℕ → List ℕ
-begun o i = joined order_bytes (take i o.list)
+abbrev pub begun : List Order → ℕ → List ℕ
+begun l i = joined order_bytes (take i l)
 
-module _ (o : Orders) (few : o.count ≤ 8) (whole : length o.list ≡ 8) where
-  pub all_begun : orders_bytes (unlisted o) ≡ written o.count ++ begun o o.count
-  all_begun = ap (λ (n : ℕ). written n ++ begun o o.count) (length-take-le o.count o.list (omega arith))
+module _ (l : List Order) where
+  pub all_begun : orders_bytes l ≡ written (length l) ++ begun l (length l)
+  all_begun = ap (λ (k : List Order). written (length l) ++ joined order_bytes k) (sym (take_all (length l) l (omega arith)))
 
-  module _ (i : ℕ) (more : i < o.count) where
-    begun_more : begun o (i + 1) ≡ begun o i ++ order_bytes (get_or o.list i no_order)
-    begun_more = rw (add-one, joined_more order_bytes o.list i no_order (omega arith))
+  module _ (i : ℕ) (more : i < length l) where
+    begun_more : begun l (i + 1) ≡ begun l i ++ order_bytes (get_or l i no_order)
+    begun_more = rw (add-one, joined_more order_bytes l i no_order more)
 
-    pub begun_size : length (begun o (i + 1)) ≡ length (begun o i) + length (order_bytes (get_or o.list i no_order))
-    begun_size = ap length begun_more ∙ length-append (begun o i) (order_bytes (get_or o.list i no_order))
+    pub begun_size : length (begun l (i + 1)) ≡ length (begun l i) + length (order_bytes (get_or l i no_order))
+    begun_size = ap length begun_more ∙ length-append (begun l i) (order_bytes (get_or l i no_order))
 
     -- room for all of them is room for the next one
-    pub room_more : {out : List ℕ} {at place : ℕ} {later : List ℕ} → Room out at (begun o o.count) → Wrote out at (begun o i) place later
-        → Room later place (order_bytes (get_or o.list i no_order))
+    pub room_more : {out : List ℕ} {at place : ℕ} {later : List ℕ} → Room out at (begun l (length l)) → Wrote out at (begun l i) place later
+        → Room later place (order_bytes (get_or l i no_order))
     room_more room wrote = record {
       enough = omega (
         arith,
         room.enough,
         wrote.place,
         begun_size,
-        joined_less order_bytes o.list (i + 1) o.count (omega arith),
+        joined_less order_bytes l (i + 1) (length l) (omega arith),
         wrote_length wrote,
       );
     }
 
-    pub wrote_more : {out : List ℕ} {at place next : ℕ} {between later : List ℕ} → Wrote out at (begun o i) place between
-        → Wrote between place (order_bytes (get_or o.list i no_order)) next later → Wrote out at (begun o (i + 1)) next later
-    wrote_more before after = rw begun_more (wrote_then (begun o i) (order_bytes (get_or o.list i no_order)) before after)
+    pub wrote_more : {out : List ℕ} {at place next : ℕ} {between later : List ℕ} → Wrote out at (begun l i) place between
+        → Wrote between place (order_bytes (get_or l i no_order)) next later → Wrote out at (begun l (i + 1)) next later
+    wrote_more before after = rw begun_more (wrote_then (begun l i) (order_bytes (get_or l i no_order)) before after)
+
+    -- orders in their ranges: and so the one at a place of the list
+    pub range_at : list_all order_in_range l ≡ true → order_in_range (get_or l i no_order) ≡ true
+    range_at all = by_test (order_in_range (get_or l i no_order)) refl
+      where
+        by_test : (β : Bool) → order_in_range (get_or l i no_order) ≡ β → β ≡ true
+        by_test true is = refl
+        by_test false is = sym (list_all_at order_in_range l i no_order more is) ∙ all
 
 -- orders and a slot in their ranges: at most eight orders, each in its own
 pub range_parts : (o : Orders) (slot : ℕ) → in_range o slot ≡ true → (o.count ≤ 8) × (list_all order_in_range (unlisted o) ≡ true) × (within 1 256 slot ≡ true)
@@ -74,15 +83,6 @@ range_parts o slot e =
     let (few, rest) = both_true (leb o.count 8) (both (list_all order_in_range (unlisted o)) (within 1 256 slot)) e in
     let (orders, stamp) = both_true (list_all order_in_range (unlisted o)) (within 1 256 slot) rest in
     (leb-true _ _ few, orders, stamp)
-
--- and so the one at a place of the list
-pub range_at : (o : Orders) (i : ℕ) → list_all order_in_range (unlisted o) ≡ true → i < o.count → i < length o.list
-    → order_in_range (get_or o.list i no_order) ≡ true
-range_at o i all counted inside = by_test (order_in_range (get_or o.list i no_order)) refl
-  where
-    by_test : (β : Bool) → order_in_range (get_or o.list i no_order) ≡ β → β ≡ true
-    by_test true is = refl
-    by_test false is = sym (every_fails order_in_range o.list o.count i no_order inside counted is) ∙ all
 
 pub few : (o : Orders) (slot : ℕ) → in_range o slot ≡ true → o.count ≤ 8
 few o slot e = (range_parts o slot e).0
@@ -109,3 +109,7 @@ pub block_size : (b : Block) → length b.block_signature ≡ 64 → (front : �
     → front + 64 ≡ length (block_bytes (parts_in b))
 block_size b signature front is =
     omega (arith, signature, ap length (block_pieces b), length-append (front_of b.front) b.block_signature)
+
+-- at most eight orders stand in the list
+pub unlisted_few : (o : Orders) → length o.list ≡ 8 → o.count ≤ 8 → length (unlisted o) ≡ o.count
+unlisted_few o whole few = length-take-le o.count o.list (omega arith)

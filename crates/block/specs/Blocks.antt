@@ -8,13 +8,10 @@ use Rattle.number.specs.Number.{written}
 use Rattle.order.specs.Order.{order_in_range}
 use Rattle.order.specs.declared.Order.{Order}
 use Rattle.block.specs.Block.{Parts, orders_bytes, front_bytes}
-use Rattle.block.specs.Answers.{listed, unlisted, told_place}
+use Rattle.block.specs.Answers.{listed, unlisted}
 use Rattle.block.specs.declared.Front.{Front}
 use Rattle.block.specs.declared.Block.{Block}
-use Rattle.block.specs.declared.BlockRead.{BlockRead}
-use Rattle.block.specs.declared.reading.Orders.{Orders}
-use Rattle.block.specs.declared.reading.Place.{Place}
-use Rattle.block.specs.declared.reading.Place.TheVariants.{Next, Refused}
+use Rattle.block.specs.declared.Orders.{Orders}
 
 abbrev pub parts_in : Block → Parts
 parts_in b = record {
@@ -36,16 +33,13 @@ block_in p = record {
   block_signature = p.block_signature;
 }
 
--- a refusal leaves zeros
+-- a host is given zeros beside a refusal
 abbrev pub no_parts : Parts
 no_parts = record { link = replicate 32 0; orders = []; slot = 0; slot_signature = replicate 64 0; block_signature = replicate 64 0 }
 
 abbrev pub block_of : Told (Found Parts) → Block
 block_of (gives r) = block_in r.value
 block_of (refuses number place) = block_in no_parts
-
-abbrev pub told_block : BlockRead → Told (Found Parts)
-told_block r = told_place (parts_in r.block) r.place
 
 -- what writing judges: "order count, display or slot out of its range", and of the orders "a release above the largest"
 abbrev pub in_range : Orders → ℕ → Bool
@@ -60,10 +54,6 @@ front_of f = front_bytes f.link (unlisted f.orders) f.slot.0 f.slot_signature
 -- how many bytes a block takes
 abbrev pub block_length : List Order → ℕ → ℕ
 block_length orders slot = 32 + (length (orders_bytes orders) + (length (written slot) + 128))
-
-abbrev pub told_next : Place → Told ℕ
-told_next (Next place) = gives place
-told_next (Refused number) = refuses number 0
 
 -- 01: "the four letters `slot` followed by the slot as a number"
 abbrev pub slot_text : ℕ → List ℕ

@@ -4,20 +4,42 @@
 mod reading;
 mod writing;
 
-ghost use Rattle.std.specs.Prelude.{◌≡◌, ◌+◌, ◌≤◌, length};
-ghost use Rattle.laws.specs.Told.{refuses};
-ghost use Rattle.laws.specs.Bytes.{part};
+ghost use Rattle.std.specs.Prelude.{◌≡◌};
+ghost use Rattle.laws.specs.Told.{found_as};
+ghost use Rattle.refusal.specs.Answers.{told_found};
+ghost use Rattle.block.specs.Answers.{unlisted};
 ghost use Rattle.block.specs.Block.{block_at};
-ghost use Rattle.block.specs.Blocks.{block_in, block_of, no_parts, told_block};
+ghost use Rattle.block.specs.Blocks.{block_in, no_parts};
 
-use order::Slot;
-pub use reading::{Body, Orders, Place, read_body};
-use reading::{LINK_BYTES, SIGNATURE_BYTES};
+use order::{LAST_SLOT, Order, Slot};
+pub use reading::read_body;
+use reading::{read_bytes, read_number_in, read_orders};
+use refusal::Refusal;
 pub use writing::{length, slot_text, write, write_front};
+
+pub const LINK_BYTES: usize = 32;
+
+pub const SIGNATURE_BYTES: usize = 64;
+
+// The orders of a block: the first `count` of the list. Those that are read or drafted have zeros behind.
+#[repr(C)]
+#[derive(Clone, Copy, Debug, Default, PartialEq, Eq)]
+pub struct Orders {
+    pub count: u32,
+    pub list: [Order; 8],
+}
+
+impl Orders {
+    pub fn as_slice(&self) -> &[Order]
+        ensures { result.now ≡ unlisted self.now }
+    {
+        &self.list[..self.count.min(8) as usize]
+    }
+}
 
 // A block without its last 64 bytes.
 #[repr(C)]
-#[derive(Clone, Copy)]
+#[derive(Clone, Copy, Debug, PartialEq, Eq)]
 pub struct Front {
     pub link: [u8; 32],
     pub orders: Orders,
@@ -26,89 +48,52 @@ pub struct Front {
 }
 
 #[repr(C)]
-#[derive(Drop)]
+#[derive(Clone, Copy, Debug, PartialEq, Eq)]
 pub struct Block {
     pub front: Front,
     pub block_signature: [u8; 64],
 }
 
-// What reading answers. The block is all zeros where it was refused.
-#[derive(Drop)]
-pub struct BlockRead {
-    pub place: Place,
-    pub block: Block,
+// What judging a block needs of it.
+#[derive(Clone, Copy, Debug, PartialEq, Eq)]
+pub struct Body {
+    pub orders: Orders,
+    pub slot: Slot,
 }
 
-pub fn read(s: &[u8], at: usize) -> BlockRead
-    ensures answer { told_block result ≡ block_at s.now at }
-    ensures block { result.block ≡ block_of (block_at s.now at) }
+// A block, and the place after it.
+#[tactic(auto, using(crate::proofs::Bodies::block_is_held))]
+pub fn read(s: &[u8], at: usize) -> Result<(Block, usize), Refusal>
+    ensures { told_found result ≡ found_as block_in (block_at s.now at) }
 {
-    let body = read_body(s, at);
-    let place = body.place;
-    let orders = body.orders;
-    let slot = body.slot;
-    match place {
-        Place::Refused(number) => refused_block(number),
-        Place::Next(next) => {
-            let link = link_at(s, at);
-            let slot_signature = signature_at(s, next - 2 * SIGNATURE_BYTES);
-            let block_signature = signature_at(s, next - SIGNATURE_BYTES);
-            BlockRead {
-                place: Place::Next(next),
-                block: Block {
-                    front: Front {
-                        link,
-                        orders,
-                        slot,
-                        slot_signature,
-                    },
-                    block_signature,
-                },
-            }
-        }
-    }
+    let (link, at) = read_bytes(s, at)?;
+    let (orders, at) = read_orders(s, at)?;
+    let (slot, at) = read_number_in(s, at, 1, LAST_SLOT)?;
+    let (slot_signature, at) = read_bytes(s, at)?;
+    let (block_signature, at) = read_bytes(s, at)?;
+    let block = Block {
+        front: Front {
+            link,
+            orders,
+            slot: Slot(slot),
+            slot_signature,
+        },
+        block_signature,
+    };
+    Ok((block, at))
 }
 
-fn link_at(s: &[u8], at: usize) -> [u8; 32]
-    requires { at + 32 ≤ length s.now }
-    ensures { result ≡ part s.now at 32 }
-{
-    let mut link = [0u8; 32];
-    buffer::put(&mut link, 0, &s[at..at + LINK_BYTES]);
-    link
-}
-
-fn signature_at(s: &[u8], at: usize) -> [u8; 64]
-    requires { at + 64 ≤ length s.now }
-    ensures { result ≡ part s.now at 64 }
-{
-    let mut signature = [0u8; 64];
-    buffer::put(&mut signature, 0, &s[at..at + SIGNATURE_BYTES]);
-    signature
-}
-
-fn refused_block(number: u32) -> BlockRead
-    ensures { (told_block result ≡ refuses number 0) × (result.block ≡ block_in no_parts) }
-{
-    let block = none();
-    BlockRead {
-        place: Place::Refused(number),
-        block,
-    }
-}
-
-// What stands where no block does: zeros.
+// What a host is given where there is no block: zeros.
 pub fn none() -> Block
     ensures { result ≡ block_in no_parts }
 {
-    let orders = reading::no_orders();
     Block {
         front: Front {
-            link: [0u8; 32],
-            orders,
+            link: [0; 32],
+            orders: Orders::default(),
             slot: Slot(0),
-            slot_signature: [0u8; 64],
+            slot_signature: [0; 64],
         },
-        block_signature: [0u8; 64],
+        block_signature: [0; 64],
     }
 }

@@ -20,6 +20,10 @@ abbrev pub then : {A B : Type 0} → Told A → (A → Told B) → Told B
 then (gives a) go = go a
 then (refuses number place) go = refuses number place
 
+-- what was found, as the code holds it
+abbrev pub found_as : {A B : Type 0} → (A → B) → Told (Found A) → Told (Found B)
+found_as held t = then t λ r. found (held r.value) r.next
+
 -- goes on where a test holds, else refuses
 abbrev pub unless : {A : Type 0} → Bool → ℕ → ℕ → Told A → Told A
 unless fine number place go = pick fine go (refuses number place)

@@ -9,7 +9,4 @@ use Rattle.block.proofs.reading.read_listed.Given as goal
 
 abbrev pub invariant-loop-i : goal.invariant-loop-i
 invariant-loop-i l =
-    (l.i ≤ l.count) × Tailed 8 no_order l.list l.i × Into order_at l.s l.at l.count l.list l.i l.place
-
-abbrev pub decreases-loop-i : goal.decreases-loop-i
-decreases-loop-i l = l.count - l.i
+    Tailed 8 no_order l.list l.i × Into order_at l.s l.at l.count l.list l.i l.place

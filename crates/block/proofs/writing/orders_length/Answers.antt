@@ -1,22 +1,27 @@
 -- `block::writing::orders_length` meets its contract.
 -- Assumes nothing.
-use mathlib.Core.Path.{◌≡◌}
 use native.Mathlib.Omega.{arith}
-use lib.ListN.{length}
-use borrow.Author.Rules.{rules}
+use mathlib.Core.Path.{ap}
+use lib.ListN.{length, length-append}
+use lib.Seq.{take_all}
+use Rattle.number.specs.Number.{written}
 use Rattle.number.proofs.Written.{at_most_five}
-use Rattle.block.proofs.Lists.{begun_size}
+use Rattle.block.proofs.Lists.{begun, begun_size, all_begun}
 use Rattle.block.proofs.writing.orders_length.Goals as goal
 
-pub loop-i-init : goal.loop-i-init
-loop-i-init c = (omega arith, omega (arith, c.length-size.ensures), omega (arith, c.length-size.ensures, at_most_five c.args.orders.count))
+pub loop-order-init : goal.loop-order-init
+loop-order-init c = (omega (arith, c.length-size.ensures), omega (arith, c.length-size.ensures, at_most_five (length c.args.orders.now)))
 
-pub loop-i-preserved : goal.loop-i-preserved
-loop-i-preserved c =
-    let whole : length c.args.orders.list ≡ 8 = search rules in
-    let i = c.loop-i.i in
-    let one = c.order_length-size.ensures in (
-      omega arith,
-      omega (arith, c.loop-i.invariant.1, one.0, begun_size c.args.orders c.requires whole i c.loop-i-test.true),
-      omega (arith, one.1),
-    )
+pub loop-order-preserved : goal.loop-order-preserved
+loop-order-preserved c =
+    let loop = c.loop-order in
+    let one = c.order_length-size.ensures in
+    (omega (arith, loop.invariant.0, one.0, begun_size c.args.orders.now loop.order-index c.loop-order-test.true), omega (arith, loop.invariant.1, one.1))
+
+pub returns : goal.returns
+returns c =
+    let orders = c.args.orders.now in
+    let loop = c.loop-order in
+    let whole = ap (begun orders) {x = loop.order-index} {y = length orders} (omega arith) in
+    (omega (arith, loop.invariant.0, ap length whole, ap length (all_begun orders), length-append (written (length orders)) (begun orders (length orders))),
+    omega (arith, loop.invariant.1, c.requires))

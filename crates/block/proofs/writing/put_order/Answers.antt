@@ -8,5 +8,5 @@ use Rattle.block.proofs.writing.put_order.Goals as goal
 pub returns : goal.returns
 returns c =
     let o = c.args.order in
-    wrote_then (written o.display) (written o.expected ++ written o.new) c.put_number-expected.ensures
-    (wrote_then (written o.expected) (written o.new) c.put_number-new.ensures c.put_number.ensures)
+    wrote_then (written o.display) (written o.expected ++ written o.new) c.put_number-at.ensures
+    (wrote_then (written o.expected) (written o.new) c.put_number-at-2.ensures c.put_number.ensures)

@@ -37,5 +37,5 @@ returns c =
     let done = judged_wrote (front_fits a.block.front) 5 a.out.now a.at (block_bytes (parts_in a.block)) _ _ fine
     (room_same (sym (block_pieces a.block)) room)
     (wrote_same (sym (block_pieces a.block))
-    (wrote_then (front_of a.block.front) a.block.block_signature c.put_front-next.ensures c.put_bytes.ensures)) in
+    (wrote_then (front_of a.block.front) a.block.block_signature c.put_front-end.ensures c.put_bytes.ensures)) in
     record { answer = done.0; buffer = done.1 }
