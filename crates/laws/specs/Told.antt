@@ -20,7 +20,10 @@ abbrev pub then : {A B : Type 0} → Told A → (A → Told B) → Told B
 then (gives a) go = go a
 then (refuses number place) go = refuses number place
 
--- what was found, as the code holds it
+-- what is given, and what was found, as the code holds it
+abbrev pub given_as : {A B : Type 0} → (A → B) → Told A → Told B
+given_as held t = then t λ a. gives (held a)
+
 abbrev pub found_as : {A B : Type 0} → (A → B) → Told (Found A) → Told (Found B)
 found_as held t = then t λ r. found (held r.value) r.next
 

@@ -1,15 +1,12 @@
 -- 01, "Orders, blocks, chains": "each step gives the next block, the end, or a refusal as for a single block, after which it stays where it is. A place at
 -- or past the chain's end gives the end."
 -- Assumes nothing.
-use Rattle.std.specs.Prelude.{ℕ, List, leb, length}
+use Rattle.std.specs.Prelude.{ℕ, List, leb, length, Option, Some, None}
 use Rattle.laws.specs.Pick.{pick}
 use Rattle.laws.specs.Told.{Told, gives, refuses, Found, then}
 use Rattle.block.specs.Block.{Parts, block_at}
-use Rattle.block.specs.Blocks.{parts_in, block_in, no_parts}
+use Rattle.block.specs.Blocks.{block_in, no_parts}
 use Rattle.block.specs.declared.Block.{Block}
-use Rattle.walk.specs.declared.Reached.{Reached}
-use Rattle.walk.specs.declared.Reached.TheVariants as reached
-use Rattle.walk.specs.declared.Stepped.{Stepped}
 
 pub data Ahead : Type 0 where
   block : Found Parts → Ahead
@@ -24,15 +21,16 @@ place_after at (gives (block b)) = b.next
 place_after at (gives end) = at
 place_after at (refuses number place) = at
 
--- what an answer tells; the block beside it is all zeros where there is none
-abbrev told_with : Block → Reached → Told Ahead
-told_with b (reached.Block next) = gives (block (record { value = parts_in b; next = next }))
-told_with b reached.End = gives end
-told_with b (reached.Refused number) = refuses number 0
+-- what lies ahead as the code holds it: the block and the place after it, and the block alone
+abbrev pub held : Ahead → Option (Block × ℕ)
+held (block b) = Some (block_in b.value, b.next)
+held end = None
 
-abbrev pub told : Stepped → Told Ahead
-told s = told_with s.block s.reached
+abbrev pub block_of : Ahead → Option Block
+block_of (block b) = Some (block_in b.value)
+block_of end = None
 
+-- a host is given zeros where there is no block
 abbrev pub block_beside : Told Ahead → Block
 block_beside (gives (block b)) = block_in b.value
 block_beside (gives end) = block_in no_parts

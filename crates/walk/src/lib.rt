@@ -2,73 +2,41 @@
 #![tactic(auto)]
 
 ghost use Rattle.std.specs.Prelude.{◌≡◌};
-ghost use Rattle.walk.specs.Walk.{step_at, place_after, told, block_beside};
+ghost use Rattle.laws.specs.Told.{given_as};
+ghost use Rattle.refusal.specs.Answers.{told};
+ghost use Rattle.walk.specs.Walk.{step_at, place_after, held, block_of};
 
-use block::{Block, Place};
+use block::Block;
+use refusal::Refusal;
 
-// What a step meets.
-#[derive(Drop)]
-pub enum Reached {
-    // a block, and the place after it
-    Block(usize),
-    End,
-    // 3, 4 or 5
-    Refused(u32),
-}
-
-// The block is all zeros where there is none.
-#[derive(Drop)]
-pub struct Stepped {
-    pub reached: Reached,
-    pub block: Block,
-}
-
-pub fn step(chain: &[u8], at: usize) -> Stepped
-    ensures answer { told result ≡ step_at chain.now at }
-    ensures block { result.block ≡ block_beside (step_at chain.now at) }
+// The next block and the place after it, or none at the end.
+pub fn step(chain: &[u8], at: usize) -> Result<Option<(Block, usize)>, Refusal>
+    ensures { told result ≡ given_as held (step_at chain.now at) }
 {
     if chain.len() <= at {
-        let none = block::none();
-        return Stepped {
-            reached: Reached::End,
-            block: none,
-        };
+        return Ok(None);
     }
-    let read = block::read(chain, at);
-    let place = read.place;
-    let block = read.block;
-    match place {
-        Place::Next(next) => Stepped {
-            reached: Reached::Block(next),
-            block,
-        },
-        Place::Refused(number) => Stepped {
-            reached: Reached::Refused(number),
-            block,
-        },
-    }
+    let found = block::read(chain, at)?;
+    Ok(Some(found))
 }
 
 // The place after a step.
 pub fn place_after(chain: &[u8], at: usize) -> usize
     ensures { result ≡ place_after at (step_at chain.now at) }
 {
-    let reached = step(chain, at).reached;
-    match reached {
-        Reached::Block(next) => next,
-        Reached::End => at,
-        Reached::Refused(_) => at,
+    match step(chain, at) {
+        Ok(Some((_, next))) => next,
+        Ok(None) | Err(_) => at,
     }
 }
 
 // The chain that is read, and the place that is reached.
-#[derive(Drop)]
+#[derive(Clone, Copy, Debug)]
 pub struct Walk<'a> {
     pub chain: &'a [u8],
     pub at: usize,
 }
 
-// No branch stands here: `step` and `place_after` decide.
 impl<'a> Walk<'a> {
     pub fn new(chain: &'a [u8], at: usize) -> Walk<'a>
         ensures { (result.chain ≡ chain.entry) × (result.at ≡ at) }
@@ -76,35 +44,32 @@ impl<'a> Walk<'a> {
         Walk { chain, at }
     }
 
-    pub fn next(self) -> Stepped
-        ensures answer { told result ≡ step_at self.entry.chain.now self.entry.at }
-        ensures block { result.block ≡ block_beside (step_at self.entry.chain.now self.entry.at) }
+    // The next block, or none at the end. The walk moves behind the block: after the end and after a refusal it stays where it is.
+    pub fn next(&mut self) -> Result<Option<Block>, Refusal>
+        ensures answer { told result ≡ given_as block_of (step_at self.old.chain.now self.old.at) }
+        ensures chain { self.new.chain ≡ self.old.chain }
+        ensures place { self.new.at ≡ place_after self.old.at (step_at self.old.chain.now self.old.at) }
     {
-        step(self.chain, self.at)
-    }
-
-    pub fn after(self) -> Walk<'a>
-        ensures { (result.chain ≡ self.entry.chain) × (result.at ≡ place_after self.entry.at (step_at self.entry.chain.now self.entry.at)) }
-    {
-        Walk {
-            chain: self.chain,
-            at: place_after(self.chain, self.at),
-        }
+        let Some((block, next)) = step(self.chain, self.at)? else {
+            return Ok(None);
+        };
+        self.at = next;
+        Ok(Some(block))
     }
 }
 
 // What a walk that begins at a place meets first.
-pub fn walked(chain: &[u8], at: usize) -> Stepped
-    ensures answer { told result ≡ step_at chain.now at }
-    ensures block { result.block ≡ block_beside (step_at chain.now at) }
+pub fn walked(chain: &[u8], at: usize) -> Result<Option<Block>, Refusal>
+    ensures { told result ≡ given_as block_of (step_at chain.now at) }
 {
     Walk::new(chain, at).next()
 }
 
 // What it meets then.
-pub fn walked_on(chain: &[u8], at: usize) -> Stepped
-    ensures answer { told result ≡ step_at chain.now (place_after at (step_at chain.now at)) }
-    ensures block { result.block ≡ block_beside (step_at chain.now (place_after at (step_at chain.now at))) }
+pub fn walked_on(chain: &[u8], at: usize) -> Result<Option<Block>, Refusal>
+    ensures { told result ≡ given_as block_of (step_at chain.now (place_after at (step_at chain.now at))) }
 {
-    Walk::new(chain, at).after().next()
+    let mut walk = Walk::new(chain, at);
+    let _ = walk.next();
+    walk.next()
 }
