@@ -1,3 +1,2 @@
 pub mod Lms
-pub mod Answer
 pub mod Signing

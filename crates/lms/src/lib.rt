@@ -7,8 +7,9 @@ mod tree;
 
 ghost use Rattle.std.specs.Prelude.{◌≡◌, ◌≤◌, length};
 ghost use Rattle.lms.specs.Lms as spec;
-ghost use Rattle.lms.specs.Answer.{told};
+ghost use Rattle.refusal.specs.Answers.{told};
 
+use refusal::Refusal;
 use strings::number_at;
 
 pub const KEY_BYTES: usize = 56;
@@ -22,30 +23,19 @@ const TREE_TYPE: u32 = 5;
 // LMOTS_SHA256_N32_W8
 const ONE_TIME_TYPE: u32 = 4;
 
-// What verifying answers.
-#[derive(Drop)]
-pub enum Verified {
-    Valid,
-    // the message has more bytes than are taken
-    TooLong,
-    // a wrong length or type code of the key or of the signature
-    Malformed,
-    Invalid,
-}
-
-pub fn verify(key: &[u8], signature: &[u8], message: &[u8]) -> Verified
+pub fn verify(key: &[u8], signature: &[u8], message: &[u8]) -> Result<(), Refusal>
     ensures { told result ≡ spec.verified key.now signature.now message.now }
 {
     if LONGEST_MESSAGE < message.len() {
-        return Verified::TooLong;
+        return Err(Refusal::TooLong);
     }
     if !well_formed(key, signature) {
-        return Verified::Malformed;
+        return Err(Refusal::BadForm);
     }
     if !verifies(key, signature, message) {
-        return Verified::Invalid;
+        return Err(Refusal::BadSignature);
     }
-    Verified::Valid
+    Ok(())
 }
 
 // Whether the lengths and the type codes fit.

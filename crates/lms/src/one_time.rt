@@ -23,9 +23,9 @@ fn message_hash(key: &[u8], q: u32, signature: &[u8], message: &[u8]) -> [u8; 32
     ensures { result ≡ spec.message_hash (spec.identifier key.now) q signature.now message.now }
 {
     let mut text = [0u8; 310];
-    buffer::put(&mut text, 0, &front(key, q, MESSAGE_TAG));
-    buffer::put(&mut text, 22, &signature[8..40]);
-    buffer::put(&mut text, 54, message);
+    let _ = buffer::put(&mut text, 0, &front(key, q, MESSAGE_TAG));
+    let _ = buffer::put(&mut text, 22, &signature[8..40]);
+    let _ = buffer::put(&mut text, 54, message);
     let end = 54 + message.len();
     hash(&text[..end])
 }
@@ -36,7 +36,7 @@ fn digits_of(hash: [u8; 32]) -> [u8; 34]
 {
     let sum = checksum(hash);
     let mut digits = [0u8; 34];
-    buffer::put(&mut digits, 0, &hash);
+    let _ = buffer::put(&mut digits, 0, &hash);
     digits[32] = (sum / 256 % 256) as u8;
     digits[33] = (sum % 256) as u8;
     digits
@@ -68,12 +68,12 @@ fn ends_hash(key: &[u8], q: u32, signature: &[u8], digits: [u8; 34]) -> [u8; 32]
         ++ spec.chain_ends (spec.identifier key.now) q signature.now digits 34) }
 {
     let mut text = [0u8; 1110];
-    buffer::put(&mut text, 0, &front(key, q, KEY_TAG));
+    let _ = buffer::put(&mut text, 0, &front(key, q, KEY_TAG));
     let mut i = 0;
     while i < 34 {
         let start = value_at(signature, 40 + 32 * i);
         let end = chain(front(key, q, i as u16), digits[i], start);
-        buffer::put(&mut text, 22 + 32 * i, &end);
+        let _ = buffer::put(&mut text, 22 + 32 * i, &end);
         i += 1;
     }
     hash(&text)
@@ -84,12 +84,12 @@ fn chain(front: [u8; 22], digit: u8, start: [u8; 32]) -> [u8; 32]
     ensures { result ≡ spec.chained front digit start (255 - digit) }
 {
     let mut text = [0u8; 55];
-    buffer::put(&mut text, 0, &front);
+    let _ = buffer::put(&mut text, 0, &front);
     let mut value = start;
     let mut j = digit;
     while j < 255 {
         text[22] = j;
-        buffer::put(&mut text, 23, &value);
+        let _ = buffer::put(&mut text, 23, &value);
         let next = hash(&text);
         value = next;
         j += 1;

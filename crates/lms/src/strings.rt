@@ -23,7 +23,7 @@ pub fn value_at(s: &[u8], at: usize) -> [u8; 32]
     ensures { result ≡ part s.now at 32 }
 {
     let mut value = [0u8; 32];
-    buffer::put(&mut value, 0, &s[at..at + 32]);
+    let _ = buffer::put(&mut value, 0, &s[at..at + 32]);
     value
 }
 
@@ -41,8 +41,8 @@ pub fn front(key: &[u8], number: u32, tag: u16) -> [u8; 22]
         (tag % 256) as u8,
     ];
     let mut front = [0u8; 22];
-    buffer::put(&mut front, 0, &key[8..24]);
-    buffer::put(&mut front, 16, &label);
+    let _ = buffer::put(&mut front, 0, &key[8..24]);
+    let _ = buffer::put(&mut front, 16, &label);
     front
 }
 
@@ -50,5 +50,5 @@ pub fn hash(s: &[u8]) -> [u8; 32]
     requires { length s.now ≤ longest }
     ensures { result ≡ sha256 s.now }
 {
-    sha256::digest(s).bytes
+    sha256::digest(s).unwrap()
 }

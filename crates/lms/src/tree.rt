@@ -31,8 +31,8 @@ fn leaf(key: &[u8], node: u32, key_hash: [u8; 32]) -> [u8; 32]
     ensures { result ≡ sha256 (spec.prefix (spec.identifier key.now) node spec.leaf_tag ++ key_hash) }
 {
     let mut text = [0u8; 54];
-    buffer::put(&mut text, 0, &front(key, node, LEAF_TAG));
-    buffer::put(&mut text, 22, &key_hash);
+    let _ = buffer::put(&mut text, 0, &front(key, node, LEAF_TAG));
+    let _ = buffer::put(&mut text, 22, &key_hash);
     hash(&text)
 }
 
@@ -53,8 +53,8 @@ fn pair_hash(front: [u8; 22], left: [u8; 32], right: [u8; 32]) -> [u8; 32]
     ensures { result ≡ sha256 (front ++ (left ++ right)) }
 {
     let mut text = [0u8; 86];
-    buffer::put(&mut text, 0, &front);
-    buffer::put(&mut text, 22, &left);
-    buffer::put(&mut text, 54, &right);
+    let _ = buffer::put(&mut text, 0, &front);
+    let _ = buffer::put(&mut text, 22, &left);
+    let _ = buffer::put(&mut text, 54, &right);
     hash(&text)
 }

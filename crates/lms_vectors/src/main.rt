@@ -4,7 +4,7 @@
 
 ghost use Rattle.std.specs.Prelude.{◌≤◌, length};
 
-use lms::Verified;
+use refusal::Refusal;
 use std::io::Read;
 
 const ROOM: usize = 16384;
@@ -123,12 +123,14 @@ fn nibble(digit: u8) -> u8
 }
 
 fn verify(rt: &impl Print, key: &[u8], signature: &[u8], message: &[u8]) {
-    match lms::verify(key, signature, message) {
-        Verified::Valid => print(rt, b"v"),
-        Verified::TooLong => print(rt, b"l"),
-        Verified::Malformed => print(rt, b"m"),
-        Verified::Invalid => print(rt, b"i"),
-    }
+    let letter = match lms::verify(key, signature, message) {
+        Ok(()) => b"v",
+        Err(Refusal::TooLong) => b"l",
+        Err(Refusal::BadForm) => b"m",
+        Err(Refusal::BadSignature) => b"i",
+        Err(_) => b"?",
+    };
+    print(rt, letter);
 }
 
 // A key, a signature and a message that stand one behind the other, the key and the signature up to a place and the message from a place on.

@@ -1,4 +1,3 @@
-pub mod Answers
 pub mod Bytes
 pub mod Digits
 pub mod Padded

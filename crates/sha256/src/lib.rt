@@ -9,8 +9,10 @@ ghost use Rattle.std.specs.Prelude.{◌≡◌, ℕ, ◌+◌, ◌*◌, ◌/◌, �
 ghost use Rattle.laws.specs.Bytes.{part};
 ghost use Rattle.laws.specs.Every.{same};
 ghost use Rattle.laws.specs.Tabulate.{tabulate, Filled};
+ghost use Rattle.refusal.specs.Answers.{told};
 ghost use Rattle.sha256.specs.Sha256.{longest, padded, hashed, digest_byte, digest_of};
-ghost use Rattle.sha256.specs.Answer.{told, bytes_of};
+
+use refusal::Refusal;
 
 pub const LONGEST: usize = 65536;
 
@@ -18,35 +20,14 @@ const INITIAL: [u32; 8] = [
     0x6a09e667, 0xbb67ae85, 0x3c6ef372, 0xa54ff53a, 0x510e527f, 0x9b05688c, 0x1f83d9ab, 0x5be0cd19,
 ];
 
-// What digesting answers. The digest stands beside it, since an enum holds no array.
-#[derive(Drop)]
-pub enum Answer {
-    Done,
-    // the slice has more bytes than are taken: the digest is then zeros
-    TooLong,
-}
-
-#[derive(Drop)]
-pub struct Digested {
-    pub answer: Answer,
-    pub bytes: [u8; 32],
-}
-
-pub fn digest(s: &[u8]) -> Digested
-    ensures answer { told result ≡ digest_of s.now }
-    ensures bytes { result.bytes ≡ bytes_of s.now }
+#[tactic(auto, unfolding(crate::specs::Sha256::sha256))]
+pub fn digest(s: &[u8]) -> Result<[u8; 32], Refusal>
+    ensures { told result ≡ digest_of s.now }
 {
     if LONGEST < s.len() {
-        return Digested {
-            answer: Answer::TooLong,
-            bytes: [0u8; 32],
-        };
+        return Err(Refusal::TooLong);
     }
-    let bytes = bytes_of(hash(s));
-    Digested {
-        answer: Answer::Done,
-        bytes,
-    }
+    Ok(bytes_of(hash(s)))
 }
 
 // The hash after the last block. The padding takes nine bytes or more: so block n is there if it begins at most eight bytes behind the message.
