@@ -7,6 +7,7 @@ use native.Mathlib.Omega.{arith}
 use native.Mathlib.Nat.{add_assoc}
 use lib.Dec.{leb}
 use lib.ListN.{length}
+use lib.Seq.{take_at}
 use borrow.Author.Tests.{le-leb, lt-leb, leb-true}
 use Rattle.laws.specs.Told.{gives, refuses, Found, found, found_as, then, unless}
 use Rattle.laws.specs.Bytes.{part, bytes_at}
@@ -16,10 +17,11 @@ use Rattle.laws.proofs.Every.{within_true}
 use Rattle.laws.proofs.Repeated.{repeated_moves, repeated_length}
 use Rattle.number.specs.Number.{number_at}
 use Rattle.number.proofs.Groups.{number_ends}
-use Rattle.laws.proofs.Told.{then_assoc, then_unless, then_gives, then_refuses, unless_gives, gives_same}
+use Rattle.laws.proofs.Told.{found_as_gives, then_assoc, then_unless, then_gives, then_refuses, unless_gives, gives_same}
 use Rattle.order.specs.declared.Order.{Order}
 use Rattle.block.specs.Block.{Parts, order_at, orders_at, block_at, number_in}
-use Rattle.block.specs.Answers.{body_of}
+use Rattle.block.specs.Answers.{listed, unlisted, body_of}
+use Rattle.block.specs.declared.Body.{Body}
 use Rattle.block.specs.Blocks.{block_in}
 use Rattle.block.specs.Steps.{body_at, block_held, body_held}
 
@@ -151,3 +153,15 @@ body_read s at orders slot next e =
     let (b, reads, told) = then_gives (block_at s at) _ (record { value = (orders, slot); next = next }) e in
     let same = gives_same told in
     (b, reads, ap (λ r. r.value.0) same, ap (λ r. r.value.1) same, ap (λ r. r.next) same)
+
+-- a body as the code holds it tells of the block
+pub unlisted_listed : (l : List Order) → unlisted (listed l) ≡ l
+unlisted_listed l = take_at l _ (length l) refl
+
+pub body_told : (s : List ℕ) (at : ℕ) (body : Body) (next : ℕ) → found body next ≡ found_as body_of (body_at s at)
+    → body_at s at ≡ found (unlisted body.orders, body.slot.0) next
+body_told s at body next e =
+    let (b, reads, held) = found_as_gives body_of (body_at s at) body next e in
+    let orders : b.0 ≡ unlisted body.orders = sym (unlisted_listed b.0) ∙ ap (λ (q : Body). unlisted q.orders) held in
+    let slot : b.1 ≡ body.slot.0 = ap (λ (q : Body). q.slot.0) held in
+    reads ∙ (λ i. found (orders i, slot i) next)

@@ -16,25 +16,18 @@ use Rattle.order.specs.Order.{valid, taken, obeyed}
 use Rattle.order.specs.declared.Order.{Order}
 use Rattle.block.specs.Block.{Parts, block_at}
 use Rattle.block.specs.Steps.{body_at}
-use Rattle.block.specs.Answers.{listed, unlisted, body_or}
-use Rattle.block.specs.declared.reading.Orders.{Orders}
 use Rattle.block.proofs.Bodies.{Stands, stands, body_read, body_refused}
 use Rattle.chain.specs.Chain.{link_of, Way, admitted, joining, judged}
 use Rattle.chain.specs.declared.Standing.{Standing}
 
 -- the orders from one place on
-module _ (list : List Order) (count i : ℕ) (d : Order) (more : i < count) (few : count ≤ length list) where
-  next_order : drop i (take count list) ≡ get_or list i d ∷ drop (i + 1) (take count list)
-  next_order =
-      let inside : i < length (take count list) = omega (arith, length-take-le count list few) in
-      rw (add-one, drop-cons (take count list) i d inside, get_or-take count list i d more)
+module _ (orders : List Order) (i : ℕ) (d : Order) (more : i < length orders) where
+  pub obeyed_next : (releases : List ℕ) → valid releases (get_or orders i d) ≡ true
+      → obeyed releases (drop i orders) ≡ obeyed (taken releases (get_or orders i d)) (drop (i + 1) orders)
+  obeyed_next releases fine = rw (add-one, drop-cons orders i d more, fine)
 
-  pub obeyed_next : (releases : List ℕ) → valid releases (get_or list i d) ≡ true
-      → obeyed releases (drop i (take count list)) ≡ obeyed (taken releases (get_or list i d)) (drop (i + 1) (take count list))
-  obeyed_next releases fine = rw (next_order, fine)
-
-  pub obeyed_fails : (releases : List ℕ) → valid releases (get_or list i d) ≡ false → obeyed releases (drop i (take count list)) ≡ refuses 10 0
-  obeyed_fails releases bad = rw (next_order, bad)
+  pub obeyed_fails : (releases : List ℕ) → valid releases (get_or orders i d) ≡ false → obeyed releases (drop i orders) ≡ refuses 10 0
+  obeyed_fails releases bad = rw (drop-cons orders i d more, bad)
 
 -- a block whose orders and slot were read
 module _ (chain : List ℕ) (before : Standing) (orders : List Order) (slot next : ℕ)
@@ -70,8 +63,9 @@ module _ (chain : List ℕ) (before : Standing) (orders : List Order) (slot next
         })
     by_orders = rw (read_block.1, read_stands.link, linked, read_block.2, read_block.3, read_block.4)
 
-    pub other_orders : obeyed before.releases orders ≡ refuses 10 0 → then (block_at chain before.length) (joining chain before) ≡ refuses 10 0
-    other_orders bad = by_orders ∙ rw bad
+    pub other_orders : (number place : ℕ) → obeyed before.releases orders ≡ refuses number place
+        → then (block_at chain before.length) (joining chain before) ≡ refuses number place
+    other_orders number place bad = by_orders ∙ rw bad
 
     pub joins : (releases : List ℕ) → obeyed before.releases orders ≡ gives releases
         → then (block_at chain before.length) (joining chain before)
@@ -84,18 +78,6 @@ module _ (chain : List ℕ) (before : Standing) (orders : List Order) (slot next
           releases = releases;
         })
     joins releases fine = by_orders ∙ rw fine
-
--- the code's orders are at most eight
-pub few_orders : (chain : List ℕ) (before : Standing) (o : Orders) (slot next : ℕ) → body_at chain before.length ≡ found (unlisted o, slot) next
-    → (o, slot) ≡ body_or (body_at chain before.length) → o.count ≤ 8
-few_orders chain before o slot next told parts =
-    let same : o ≡ listed (unlisted o) = ap (λ v. v.0) (parts ∙ ap body_or told) in
-    omega (
-      arith,
-      ap (λ (o : Orders). o.count) same,
-      (read_stands chain before (unlisted o) slot next told).few,
-      ap length (read_block chain before (unlisted o) slot next told).2,
-    )
 
 -- a block that does not read
 pub unread : (way : Way) (clock : ℕ) (chain : List ℕ) (before : Standing) (number place : ℕ) → body_at chain before.length ≡ refuses number place

@@ -10,4 +10,3 @@ pub mod Clocks
 pub mod Chains
 pub mod Links
 pub mod Theorems
-pub mod Answers

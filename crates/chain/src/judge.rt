@@ -1,83 +1,44 @@
 // One block, judged behind the blocks before it, delivered or held.
-ghost use Rattle.std.specs.Prelude.{◌≡◌, ◌+◌, ◌<◌, ◌≤◌, eqb, length, get_or};
-ghost use Rattle.laws.specs.Told.{refuses, found, then};
+ghost use Rattle.std.specs.Prelude.{◌≡◌, ◌<◌, eqb, get_or};
+ghost use Rattle.laws.specs.Told.{found, then};
+ghost use Rattle.refusal.specs.Answers.{told};
+ghost use Rattle.order.specs.Order.{obeyed};
 ghost use Rattle.block.specs.Block.{block_at};
 ghost use Rattle.block.specs.Steps.{body_at};
 ghost use Rattle.block.specs.Answers.{unlisted};
-ghost use Rattle.order.specs.Order.{obeyed};
 ghost use Rattle.chain.specs.Chain as spec;
-ghost use Rattle.chain.specs.Answers.{way_of, told_with, told_judging, told_obeyed};
+ghost use Rattle.chain.specs.Answers.{way_of};
 
-use crate::{Standing, Way};
-use block::{Orders, Place};
-use order::{BlockCount, Release, Slot, earlier};
-use refusal::{BAD_HELD, BAD_LINK, BAD_ORDER, BAD_STAMP, BAD_VERDICT, LATE_STAMP};
+use crate::{Standing, Way, link_of};
+use block::Body;
+use order::{BlockCount, Order, Release, Slot, earlier};
+use refusal::Refusal;
 
-#[derive(Drop)]
-pub enum Judgement {
-    Good,
-    Refused(u32),
-}
-
-// The standing is the one after the block, if that is good.
-#[derive(Drop)]
-pub struct Judging {
-    pub judgement: Judgement,
-    pub after: Standing,
-}
-
+// The standing after the next block.
 #[inline(always)]
-pub fn judge(chain: &[u8], verdicts: &[u8], way: Way, clock: Slot, before: Standing) -> Judging
+pub fn judge(chain: &[u8], way: Way<'_>, clock: Slot, before: Standing) -> Result<Standing, Refusal>
     requires { before.count.0 < spec.largest_count }
-    ensures { told_judging result ≡ spec.judged (way_of way verdicts.now) clock.0 chain.now before }
+    ensures { told result ≡ spec.judged (way_of way.entry) clock.0 chain.now before }
 {
-    let body = block::read_body(chain, before.length);
-    let place = body.place;
-    let orders = body.orders;
-    let stamp = body.slot;
-    match place {
-        Place::Refused(number) => refused(number, before),
-        Place::Next(next) => {
-            if !earlier(before.stamp, stamp) {
-                return refused(BAD_STAMP, before);
-            }
-            match admit(way, verdicts, clock, before.count, stamp) {
-                Judgement::Refused(number) => refused(number, before),
-                Judgement::Good => join(chain, before, orders, stamp, next),
-            }
-        }
+    let (body, next) = block::read_body(chain, before.length)?;
+    if !earlier(before.stamp, body.slot) {
+        return Err(Refusal::BadStamp);
     }
-}
-
-fn refused(number: u32, before: Standing) -> Judging
-    ensures { told_judging result ≡ refuses number 0 }
-{
-    Judging {
-        judgement: Judgement::Refused(number),
-        after: before,
-    }
+    admit(way, clock, before.count, body.slot)?;
+    join(chain, before, body, next)
 }
 
 // Whether a stamp is admitted: 7 and 8 from outside, 17 of what is held.
-fn admit(way: Way, verdicts: &[u8], clock: Slot, count: BlockCount, stamp: Slot) -> Judgement
-    ensures { told_with tt result ≡ spec.admitted (way_of way verdicts.now) clock.0 count.0 stamp.0 }
+fn admit(way: Way<'_>, clock: Slot, count: BlockCount, stamp: Slot) -> Result<(), Refusal>
+    ensures { told result ≡ spec.admitted (way_of way.entry) clock.0 count.0 stamp.0 }
 {
     match way {
-        Way::Delivered => {
-            if !earlier(stamp, clock) {
-                return Judgement::Refused(LATE_STAMP);
-            }
-            if good_verdict(verdicts, count.0 as usize) {
-                return Judgement::Good;
-            }
-            Judgement::Refused(BAD_VERDICT)
+        Way::Delivered(_) if !earlier(stamp, clock) => Err(Refusal::LateStamp),
+        Way::Delivered(verdicts) if !good_verdict(verdicts, count.0 as usize) => {
+            Err(Refusal::BadVerdict)
         }
-        Way::Held => {
-            if earlier(clock, stamp) {
-                return Judgement::Refused(BAD_HELD);
-            }
-            Judgement::Good
-        }
+        Way::Held if earlier(clock, stamp) => Err(Refusal::BadHeld),
+        Way::Delivered(_) | Way::Held => Ok(()),
     }
 }
 
@@ -85,54 +46,37 @@ fn admit(way: Way, verdicts: &[u8], clock: Slot, count: BlockCount, stamp: Slot)
 fn good_verdict(verdicts: &[u8], at: usize) -> bool
     ensures { result ≡ eqb (get_or verdicts.now at 0) 3 }
 {
-    if verdicts.len() <= at {
-        return false;
-    }
-    verdicts[at] == 3
+    verdicts.get(at) == Some(&3)
 }
 
 // Judges the link and the orders of a block that ends at `next`.
 #[inline(always)]
-fn join(chain: &[u8], before: Standing, orders: Orders, stamp: Slot, next: usize) -> Judging
-    requires { (before.count.0 < spec.largest_count) × (orders.count ≤ 8) × (body_at chain.now before.length ≡ found (unlisted orders, stamp.0) next) }
-    ensures { told_judging result ≡ then (block_at chain.now before.length) (spec.joining chain.now before) }
+fn join(chain: &[u8], before: Standing, body: Body, next: usize) -> Result<Standing, Refusal>
+    requires { (before.count.0 < spec.largest_count) × (body_at chain.now before.length ≡ found (unlisted body.orders, body.slot.0) next) }
+    ensures { told result ≡ then (block_at chain.now before.length) (spec.joining chain.now before) }
 {
-    let at = before.length;
-    let link = before.link;
-    if !sha256::stands_at(chain, at, link) {
-        return refused(BAD_LINK, before);
+    if !sha256::stands_at(chain, before.length, before.link) {
+        return Err(Refusal::BadLink);
     }
-    let mut releases = before.releases;
-    if !obey(&mut releases, orders) {
-        return refused(BAD_ORDER, before);
-    }
-    let link = sha256::digest(&chain[at..next]).bytes;
-    Judging {
-        judgement: Judgement::Good,
-        after: Standing {
-            count: BlockCount(before.count.0 + 1),
-            length: next,
-            stamp,
-            link,
-            releases,
-        },
-    }
+    let releases = obey(before.releases, body.orders.as_slice())?;
+    Ok(Standing {
+        count: BlockCount(before.count.0 + 1),
+        length: next,
+        stamp: body.slot,
+        link: link_of(&chain[before.length..next]),
+        releases,
+    })
 }
 
-// Takes orders one after the other, as long as they are valid.
-fn obey(releases: &mut [Release; 64], orders: Orders) -> bool
-    requires { orders.count ≤ 8 }
-    ensures { told_obeyed result releases.new ≡ obeyed releases.old (unlisted orders) }
+// The releases after orders that are taken one after the other, if each is valid.
+fn obey(releases: [Release; 64], orders: &[Order]) -> Result<[Release; 64], Refusal>
+    ensures { told result ≡ obeyed releases orders.now }
 {
-    let count = orders.count as usize;
-    let list = orders.list;
-    let mut i = 0;
-    while i < count {
-        let order = list[i];
-        if !order::take(releases, order) {
-            return false;
+    let mut releases = releases;
+    for order in orders {
+        if !order::take(&mut releases, *order) {
+            return Err(Refusal::BadOrder);
         }
-        i += 1;
     }
-    true
+    Ok(releases)
 }

@@ -1,10 +1,10 @@
 -- What is known where an answer gives something: each step before it gave something too.
 -- Assumes nothing.
-use mathlib.Core.Path.{◌≡◌, refl, sym}
+use mathlib.Core.Path.{◌≡◌, refl, sym, ap, ◌∙◌}
 use mathlib.Core.Bool.{Bool, true, false}
 use Prim.Native.Nat.{ℕ}
 use native.Mathlib.Omega.{arith}
-use Rattle.laws.specs.Told.{Told, gives, refuses, then, unless}
+use Rattle.laws.specs.Told.{Told, gives, refuses, Found, found, found_as, then, unless}
 
 pub gives_not_refuses : {A B : Type 0} {a : A} {number place : ℕ} → refuses number place ≡ gives a → B
 gives_not_refuses e = let z : ◌≡◌ {A = ℕ} 0 1 = cc in absurd (omega arith)
@@ -37,3 +37,16 @@ then_unless false number place t f = refl
 pub then_refuses : {A B : Type 0} (t : Told A) (f : A → B) (number place : ℕ) → then t (λ a. gives (f a)) ≡ refuses number place → t ≡ refuses number place
 then_refuses (gives a) f number place e = gives_not_refuses (sym e)
 then_refuses (refuses n p) f number place e = cc
+
+-- what was found, as the code holds it
+pub found_as_gives : {A B : Type 0} (held : A → B) (t : Told (Found A)) (b : B) (next : ℕ) → found b next ≡ found_as held t
+    → (a : A) × (t ≡ found a next) × (held a ≡ b)
+found_as_gives held t b next e =
+    let (a, is, same) = then_gives t _ (record { value = b; next = next }) (sym e) in
+    let q = gives_same same in
+    (a.value, is ∙ ap (λ (n : ℕ). found a.value n) (ap (λ r. r.next) q), ap (λ r. r.value) q)
+
+pub found_as_refuses : {A B : Type 0} (held : A → B) (t : Told (Found A)) (number place : ℕ) → refuses number place ≡ found_as held t
+    → t ≡ refuses number place
+found_as_refuses held (gives a) number place e = gives_not_refuses e
+found_as_refuses held (refuses n p) number place e = cc

@@ -1,13 +1,9 @@
--- `chain::judge::obey` meets its contract.
+-- `chain::judge::obey` meets its contract: the orders that are left take the releases on.
 -- Assumes nothing.
-use Prim.Native.Nat.{◌-◌, ◌≤◌}
 use mathlib.Core.Path.{◌≡◌}
-use lib.ListN.{drop, take}
+use lib.ListN.{drop}
 use Rattle.order.specs.Order.{obeyed}
 use Rattle.chain.proofs.judge.obey.Given as goal
 
-abbrev pub invariant-loop-i : goal.invariant-loop-i
-invariant-loop-i l = (l.i ≤ l.count) × (obeyed l.initial.releases (take l.count l.list) ≡ obeyed l.releases (drop l.i (take l.count l.list)))
-
-abbrev pub decreases-loop-i : goal.decreases-loop-i
-decreases-loop-i l = l.count - l.i
+abbrev pub invariant-loop-order : goal.invariant-loop-order
+invariant-loop-order l = obeyed l.initial.releases l.orders ≡ obeyed l.releases (drop l.order-index l.orders)
