@@ -4,20 +4,20 @@ use mathlib.Core.Path.{◌≡◌, sym, ap, ◌∙◌}
 use mathlib.Core.Bool.{Bool, true, false}
 use mathlib.Core.Logic.{◌⊎◌, inl, inr}
 use mathlib.Core.List.{List}
-use Prim.Native.Nat.{ℕ, zero, suc, ◌+◌, ◌≤◌}
+use Prim.Native.Nat.{ℕ, zero, suc, ◌+◌, ◌-◌, ◌≤◌}
 use native.Mathlib.Omega.{arith}
 use lib.Dec.{ltb, leb}
-use lib.ListN.{length, get_or}
+use lib.ListN.{length, get_or, take, drop, length-drop}
+use lib.Seq.{length-take-le, take_all}
 use borrow.Author.Tests.{le-leb}
-use Rattle.laws.specs.Bytes.{bytes_at}
+use Rattle.laws.specs.Bytes.{part, bytes_at}
 use Rattle.laws.specs.Pick.{pick}
-use Rattle.laws.specs.Told.{Told, gives, refuses, then, unless, number_of}
+use Rattle.laws.specs.Told.{Told, gives, refuses, found, then, unless, number_of}
 use Rattle.number.specs.Number.{joined, read_groups, number_at}
 use Rattle.lms.specs.Lms.{longest_message, signs, verified, verifies, well_formed}
-use Rattle.lms.specs.Answer.{told}
-use Rattle.lms.specs.declared.Verified.{Verified}
-use Rattle.lms.specs.declared.Verified.TheVariants.{TooLong, Invalid}
 use Rattle.manifest.specs.Manifest.{head_at}
+use Rattle.manifest.specs.Answers.{head_in}
+use Rattle.manifest.proofs.Heads.{head_ends}
 
 unless_low : {A : Type 0} (fine : Bool) (number place : ℕ) (t : Told A) → number ≤ 4 → number_of t ≤ 4 → number_of (unless fine number place t) ≤ 4
 unless_low true number place t low rest = rest
@@ -51,6 +51,17 @@ head_low s at =
 pub short_verified : (key signature message : List ℕ) → length message ≤ longest_message → verified key signature message ≡ signs key signature message
 short_verified key signature message short = rw (le-leb _ _ short)
 
+-- what stands behind the head signs what stands before: at most 37 bytes, so that no message is too long
+pub signed : (key manifest : List ℕ) (release at : ℕ) → found (head_in manifest release at) (at + 32) ≡ head_at manifest 0
+    → verified key (part manifest (at + 32) (length manifest - (at + 32))) (take (at + 32) manifest)
+    ≡ signs key (drop (at + 32) manifest) (take (at + 32) manifest)
+signed key manifest release at head =
+    let end = at + 32 in
+    let (inside, soon) = head_ends manifest _ (sym head) in
+    let few : length (take end manifest) ≤ 256 = omega (arith, length-take-le end manifest inside, soon) in
+    let all : part manifest end (length manifest - end) ≡ drop end manifest = take_all (length manifest - end) (drop end manifest) (rw length-drop (omega arith)) in
+    ap (λ (signature : List ℕ). verified key signature (take end manifest)) all ∙ short_verified key (drop end manifest) (take end manifest) few
+
 -- 23 and 24
 pub signs_not_16 : (key signature message : List ℕ) → number_of (signs key signature message) ≡ 16 → ⊥
 signs_not_16 key signature message = by (well_formed key signature) (verifies key signature message)
@@ -59,9 +70,3 @@ signs_not_16 key signature message = by (well_formed key signature) (verifies ke
     by false fits e = omega arith
     by true false e = omega arith
     by true true e = omega arith
-
--- so a verification that is neither good nor malformed found that it does not verify
-pub not_verified : (v : Verified) → (v ≡ Invalid) ⊎ (v ≡ TooLong) → (key signature message : List ℕ) → told v ≡ signs key signature message
-    → signs key signature message ≡ refuses 24 0
-not_verified v (inl is) key signature message e = sym e ∙ ap told is
-not_verified v (inr is) key signature message e = absurd (signs_not_16 key signature message (sym (ap number_of e) ∙ ap (λ (u : Verified). number_of (told u)) is))

@@ -1,21 +1,15 @@
--- What the answers of this crate tell.
+-- What the head of a manifest tells, read with its digest left where it stands.
 -- Assumes nothing.
-use Rattle.std.specs.Prelude.{ℕ, ◌+◌, List}
+use Rattle.std.specs.Prelude.{ℕ, ◌+◌, List, Result, Ok, Err}
 use Rattle.laws.specs.Bytes.{part}
 use Rattle.laws.specs.Told.{Told, refuses, Found, found}
-use Rattle.refusal.specs.Answers.{told_answer}
-use Rattle.refusal.specs.declared.Answer.{Answer}
+use Rattle.refusal.specs.Answers.{number_of}
+use Rattle.refusal.specs.declared.Refusal.{Refusal}
 use Rattle.manifest.specs.Manifest.{Head}
-use Rattle.manifest.specs.declared.HeadRead.{HeadRead}
-use Rattle.manifest.specs.declared.HeadRead.TheVariants as head
 
-abbrev pub told : Answer → Told (Unit {0})
-told r = told_answer tt r
-
--- the digest stands at a place of the manifest
 abbrev pub head_in : List ℕ → (release at : ℕ) → Head
 head_in s release at = record { release = release; digest = part s at 32 }
 
-abbrev pub told_head : List ℕ → HeadRead → Told (Found Head)
-told_head s (head.Head release at) = found (head_in s release at) (at + 32)
-told_head s (head.Refused number) = refuses number 0
+abbrev pub told_head : List ℕ → Result (ℕ × ℕ) Refusal → Told (Found Head)
+told_head s (Ok h) = found (head_in s h.0 h.1) (h.1 + 32)
+told_head s (Err refusal) = refuses (number_of refusal) 0
