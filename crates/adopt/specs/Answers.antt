@@ -1,19 +1,15 @@
--- What the answers of this crate tell.
+-- What adoption answers, as the code holds it.
 -- Assumes nothing.
 use Rattle.std.specs.Prelude.{ℕ}
 use Rattle.laws.specs.Told.{Told, given_or}
-use Rattle.refusal.specs.Answers.{told_answer}
-use Rattle.adopt.specs.declared.Judged.{Judged}
+use Rattle.order.specs.declared.BlockCount.{BlockCount}
 use Rattle.adopt.specs.declared.Adopted.{Adopted}
 
-abbrev pub told_judged : Judged → Told ℕ
-told_judged j = told_answer j.count.0 j.answer
+abbrev pub count_held : ℕ → BlockCount
+count_held count = record { 0 = count }
 
-abbrev pub size_and_count : Adopted → ℕ × ℕ
-size_and_count a = (a.length, a.count.0)
-
-abbrev pub told_adopted : Adopted → Told (ℕ × ℕ)
-told_adopted a = told_answer (size_and_count a) a.answer
+abbrev pub adopted_held : ℕ × ℕ → Adopted
+adopted_held a = record { length = a.0; count = count_held a.1 }
 
 -- a refusal leaves the length that was held before, and no count
 abbrev pub size_and_count_or : ℕ → Told (ℕ × ℕ) → ℕ × ℕ

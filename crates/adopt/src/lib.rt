@@ -2,32 +2,25 @@
 #![tactic(auto)]
 
 ghost use Rattle.std.specs.Prelude.{◌≡◌};
-ghost use Rattle.laws.specs.Told.{refuses, given_or, number_of, place_of};
+ghost use Rattle.laws.specs.Told.{given_as};
 ghost use Rattle.chain.specs.Chain as chain;
+ghost use Rattle.chain.specs.Answers.{told};
 ghost use Rattle.adopt.specs.Adopt as spec;
-ghost use Rattle.adopt.specs.Answers.{told_judged, told_adopted, size_and_count, size_and_count_or};
+ghost use Rattle.adopt.specs.Answers.{count_held, adopted_held};
 
-use buffer::Writing;
-use chain::Opened;
+use chain::{Opened, Refused};
 use order::{BlockCount, Slot, more};
-use refusal::{Answer, NOT_LONGER, SHORT_BUFFER};
+use refusal::Refusal;
 
-// Whether a delivered chain replaces the held one, and its block count: 0 where it was refused.
-#[derive(Drop)]
-pub struct Judged {
-    pub answer: Answer,
-    pub count: BlockCount,
-}
-
-// What adoption answers: the held chain's length from then on, which a refusal leaves as it was, and the adopted chain's block count, 0 where there is none.
-#[derive(Drop)]
+// What adoption leaves: the held chain's length from then on, and its block count.
+#[derive(Clone, Copy, Debug, PartialEq, Eq)]
 pub struct Adopted {
-    pub answer: Answer,
     pub length: usize,
     pub count: BlockCount,
 }
 
-// The judgement behind the choice and adoption. The held chain is the first bytes of a buffer.
+// The judgement behind the choice and adoption: the block count of a delivered chain that replaces the held one. That is the first bytes of a buffer.
+#[tactic(auto, unfolding(crate::specs::Adopt::accepted))]
 pub fn judge(
     genesis: &[u8],
     clock: Slot,
@@ -35,88 +28,48 @@ pub fn judge(
     length: usize,
     delivered: &[u8],
     verdicts: &[u8],
-) -> Judged
-    ensures answer { told_judged result ≡
-        spec.accepted genesis.now clock.0 held.now length delivered.now verdicts.now }
-    ensures count { result.count.0 ≡ given_or 0
+) -> Result<BlockCount, Refused>
+    ensures { told result ≡ given_as count_held
         (spec.accepted genesis.now clock.0 held.now length delivered.now verdicts.now) }
 {
-    let holding = chain::hold(genesis, clock, held, length);
-    let answer = holding.answer;
-    let opened = holding.opened;
-    let whole = holding.summary.whole;
-    match answer {
-        Answer::Refused(number, place) => refused(number, place),
-        Answer::Good => against(opened, whole.count, delivered, verdicts),
-    }
+    let (opened, summary) = chain::hold(genesis, clock, held, length)?;
+    against(opened, summary.whole.count, delivered, verdicts)
 }
 
 // A delivered chain against the held one's block count.
-fn against(opened: Opened, held: BlockCount, delivered: &[u8], verdicts: &[u8]) -> Judged
-    ensures result_value { told_judged result ≡ spec.longer held.0 (chain.delivered_chain opened delivered.now verdicts.now) }
-    ensures count_value { result.count.0 ≡ given_or 0 (told_judged result) }
+fn against(opened: Opened, held: BlockCount, delivered: &[u8], verdicts: &[u8]) -> Result<BlockCount, Refused>
+    ensures { told result ≡ given_as count_held (spec.longer held.0 (chain.delivered_chain opened delivered.now verdicts.now)) }
 {
-    let passed = chain::delivered(opened, delivered, verdicts);
-    let answer = passed.answer;
-    let whole = passed.summary.whole;
-    let count = whole.count;
-    match answer {
-        Answer::Refused(number, place) => refused(number, place),
-        Answer::Good => {
-            if !more(count, held) {
-                return refused(NOT_LONGER, BlockCount(0));
-            }
-            Judged {
-                answer: Answer::Good,
-                count,
-            }
-        }
+    let whole = chain::delivered(opened, delivered, verdicts)?.whole;
+    if !more(whole.count, held) {
+        return Err(Refusal::NotLonger.into());
     }
+    Ok(whole.count)
 }
 
-fn refused(number: u32, place: BlockCount) -> Judged
-    ensures { (told_judged result ≡ refuses number place.0) × (result.count.0 ≡ 0) }
-{
-    Judged {
-        answer: Answer::Refused(number, place),
-        count: BlockCount(0),
-    }
-}
-
-// The choice itself, before any byte is copied: the delivered chain if it is accepted, else the held one. The refusal is written beside it.
+// The choice itself, before any byte is copied: the delivered chain if it is accepted, else the held one, and beside it the judgement.
 pub fn choose<'a>(
     genesis: &[u8],
     clock: Slot,
     held: &'a [u8],
     delivered: &'a [u8],
     verdicts: &[u8],
-    number: &mut u32,
-    place: &mut u32,
-) -> &'a [u8]
-    ensures slice { result ≡ spec.chosen
+) -> (&'a [u8], Result<BlockCount, Refused>)
+    ensures slice { result.0 ≡ spec.chosen
         (spec.choice genesis.now clock.0 held.now delivered.now verdicts.now)
         held.entry delivered.entry }
-    ensures number { number.new ≡ number_of
-        (spec.choice genesis.now clock.0 held.now delivered.now verdicts.now) }
-    ensures place { place.new ≡ place_of
+    ensures judgement { told result.1 ≡ given_as count_held
         (spec.choice genesis.now clock.0 held.now delivered.now verdicts.now) }
 {
-    let answer = judge(genesis, clock, held, held.len(), delivered, verdicts).answer;
-    match answer {
-        Answer::Good => {
-            *number = 0;
-            *place = 0;
-            delivered
-        }
-        Answer::Refused(refusal, block) => {
-            *number = refusal;
-            *place = block.0;
-            held
-        }
-    }
+    let judgement = judge(genesis, clock, held, held.len(), delivered, verdicts);
+    let chosen = match judgement {
+        Ok(_) => delivered,
+        Err(_) => held,
+    };
+    (chosen, judgement)
 }
 
-// Puts a delivered chain in the place of the held one, if it is accepted.
+// Puts a delivered chain in the place of the held one, if it is accepted. A refusal leaves the held one, and its length, as they were.
 pub fn adopt(
     genesis: &[u8],
     clock: Slot,
@@ -124,39 +77,15 @@ pub fn adopt(
     length: usize,
     delivered: &[u8],
     verdicts: &[u8],
-) -> Adopted
-    ensures answer { told_adopted result ≡ spec.adopted
-        (spec.accepted genesis.now clock.0 held.old length delivered.now verdicts.now)
-        held.old delivered.now }
-    ensures values { size_and_count result ≡ size_and_count_or length (spec.adopted
+) -> Result<Adopted, Refused>
+    ensures answer { told result ≡ given_as adopted_held (spec.adopted
         (spec.accepted genesis.now clock.0 held.old length delivered.now verdicts.now)
         held.old delivered.now) }
     ensures held { held.new ≡ spec.adopting
         (spec.accepted genesis.now clock.0 held.old length delivered.now verdicts.now)
         held.old delivered.now }
 {
-    let judged = judge(genesis, clock, &*held, length, delivered, verdicts);
-    let answer = judged.answer;
-    let count = judged.count;
-    match answer {
-        Answer::Refused(number, place) => kept(number, place, length),
-        Answer::Good => match buffer::put(held, 0, delivered) {
-            Writing::Short => kept(SHORT_BUFFER, BlockCount(0), length),
-            Writing::Next(length) => Adopted {
-                answer: Answer::Good,
-                length,
-                count,
-            },
-        },
-    }
-}
-
-fn kept(number: u32, place: BlockCount, length: usize) -> Adopted
-    ensures { (told_adopted result ≡ refuses number place.0) × (size_and_count result ≡ (length, 0)) }
-{
-    Adopted {
-        answer: Answer::Refused(number, place),
-        length,
-        count: BlockCount(0),
-    }
+    let count = judge(genesis, clock, &*held, length, delivered, verdicts)?;
+    let length = buffer::put(held, 0, delivered)?;
+    Ok(Adopted { length, count })
 }

@@ -2,17 +2,17 @@
 #![tactic(auto)]
 
 ghost use Rattle.std.specs.Prelude.{◌≡◌};
-ghost use Rattle.laws.specs.Told.{refuses};
+ghost use Rattle.laws.specs.Told.{given_as};
+ghost use Rattle.chain.specs.Answers.{told};
 ghost use Rattle.report.specs.Report as spec;
-ghost use Rattle.report.specs.Answers.{values_of, told_reported, values_or, no_values};
+ghost use Rattle.report.specs.Answers.{report_held};
 
+use chain::{Refused, Summary};
 use order::{BlockCount, Release, Slot};
-use refusal::Answer;
 
-// What the report answers. All values are zeros where it was refused.
-#[derive(Drop)]
+// What the report answers.
+#[derive(Clone, Copy, Debug, PartialEq, Eq)]
 pub struct Reported {
-    pub answer: Answer,
     pub held: BlockCount,
     pub settled: BlockCount,
     // how many bytes the settled blocks take
@@ -22,38 +22,16 @@ pub struct Reported {
 }
 
 // Reports on the chain that is held in the first bytes of a buffer.
-pub fn report(genesis: &[u8], clock: Slot, held: &[u8], length: usize) -> Reported
-    ensures answer { told_reported result ≡ spec.reported genesis.now clock.0 held.now length }
-    ensures values { values_of result ≡ values_or (spec.reported genesis.now clock.0 held.now length) }
+pub fn report(genesis: &[u8], clock: Slot, held: &[u8], length: usize) -> Result<Reported, Refused>
+    ensures { told result ≡ given_as report_held (spec.reported genesis.now clock.0 held.now length) }
 {
-    let holding = chain::hold(genesis, clock, held, length);
-    let answer = holding.answer;
-    let whole = holding.summary.whole;
-    let front = holding.summary.settled;
-    let held = whole.count;
-    let settled = front.count;
-    let releases = front.releases;
-    match answer {
-        Answer::Refused(number, place) => refused(number, place),
-        Answer::Good => Reported {
-            answer: Answer::Good,
-            held,
-            settled,
-            length: front.length,
-            releases,
-        },
-    }
-}
-
-// What stands beside a refusal.
-pub fn refused(number: u32, place: BlockCount) -> Reported
-    ensures { (told_reported result ≡ refuses number place.0) × (values_of result ≡ no_values) }
-{
-    Reported {
-        answer: Answer::Refused(number, place),
-        held: BlockCount(0),
-        settled: BlockCount(0),
-        length: 0,
-        releases: [0; 64],
-    }
+    let (_, Summary { whole, settled }) = chain::hold(genesis, clock, held, length)?;
+    let releases = settled.releases;
+    let reported = Reported {
+        held: whole.count,
+        settled: settled.count,
+        length: settled.length,
+        releases,
+    };
+    Ok(reported)
 }
