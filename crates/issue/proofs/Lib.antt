@@ -5,4 +5,3 @@ pub mod Appended
 pub mod Signed
 pub mod Went
 pub mod Theorems
-pub mod Answers

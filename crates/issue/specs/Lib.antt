@@ -1,2 +1,1 @@
 pub mod Issue
-pub mod Answers

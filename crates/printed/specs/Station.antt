@@ -10,13 +10,15 @@ use Rattle.genesis.specs.Genesis.{faulty, genesis_of}
 use Rattle.report.specs.Report.{Report, reported}
 use Rattle.printed.specs.Decimal.{decimal}
 
--- a good genesis, and the place of now: "A genesis length that is cut, badly written or above 1,315, or input too short for its genesis, prints
--- `refused 1 0`"
+-- a good genesis and the place of now, or the first fault
+abbrev pub genesis_read : List ℕ → Told (Found (List ℕ))
+genesis_read input =
+    then (number_at input 0) λ size. unless (leb size.value 1315) 1 0
+    (then (bytes_at size.value input size.next) λ genesis. then (genesis_of genesis.value) λ _. gives genesis)
+
+-- "A genesis length that is cut, badly written or above 1,315, or input too short for its genesis, prints `refused 1 0`"
 abbrev pub genesis_at : List ℕ → Told (Found (List ℕ))
-genesis_at input =
-    faulty
-    (then (number_at input 0) λ size. unless (leb size.value 1315) 1 0
-    (then (bytes_at size.value input size.next) λ genesis. then (genesis_of genesis.value) λ _. gives genesis))
+genesis_at input = faulty (genesis_read input)
 
 -- "a now that is cut or badly written, `refused 2 0`"
 abbrev pub clocked : {A : Type 0} → Told A → Told A

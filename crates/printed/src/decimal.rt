@@ -8,10 +8,10 @@ pub fn put(out: &mut [u8], at: usize, value: u64) -> usize
     ensures { Wrote out.old at (spec.decimal value) result out.new }
 {
     if value < 10 {
-        out[at] = 48 + value as u8;
+        out[at] = b'0' + value as u8;
         return at + 1;
     }
-    let next = put(out, at, value / 10);
-    out[next] = 48 + (value % 10) as u8;
-    next + 1
+    let last = put(out, at, value / 10);
+    out[last] = b'0' + (value % 10) as u8;
+    last + 1
 }

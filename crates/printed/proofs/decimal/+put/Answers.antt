@@ -23,20 +23,20 @@ returns-then-value-lt10 t c =
     let a = c.args in
     wrote_same (sym (decimal_one a.value c.if-value-lt10.true)) (wrote_one a.out.now a.at (digit a.value))
 
-pub put-next-requires : goal.put-next-requires
-put-next-requires t c =
+pub put-last-requires : goal.put-last-requires
+put-last-requires t c =
     let a = c.args in
     let v = a.value in
     let small : v < 10 ^ 20 = omega arith in
     (omega arith, room_first (decimal (v / 10)) (digit (v % 10) ∷ []) (room a.out.now a.at v c.if-value-lt10.false small c.requires))
 
 -- room for the lowest digit behind the others
-pub bounds-out-next : goal.bounds-out-next
-bounds-out-next t c =
+pub bounds-out-last : goal.bounds-out-last
+bounds-out-last t c =
     let a = c.args in
     let v = a.value in
     let small : v < 10 ^ 20 = omega arith in
-    let last = room_then (decimal (v / 10)) (digit (v % 10) ∷ []) c.put-next.ensures (room a.out.now a.at v c.if-value-lt10.false small c.requires) in
+    let last = room_then (decimal (v / 10)) (digit (v % 10) ∷ []) c.put-last.ensures (room a.out.now a.at v c.if-value-lt10.false small c.requires) in
     omega (arith, last.enough)
 
 pub overflow_add-result-2 : goal.overflow_add-result-2
@@ -44,7 +44,7 @@ overflow_add-result-2 t c =
     let a = c.args in
     let v = a.value in
     let small : v < 10 ^ 20 = omega arith in
-    let last = room_then (decimal (v / 10)) (digit (v % 10) ∷ []) c.put-next.ensures (room a.out.now a.at v c.if-value-lt10.false small c.requires) in
+    let last = room_then (decimal (v / 10)) (digit (v % 10) ∷ []) c.put-last.ensures (room a.out.now a.at v c.if-value-lt10.false small c.requires) in
     omega (arith, last.enough)
 
 pub returns : goal.returns
@@ -52,4 +52,4 @@ returns t c =
     let v = c.args.value in
     let small : v < 10 ^ 20 = omega (arith, c.ranges.value) in
     wrote_same (sym (decimal_more v c.if-value-lt10.false small))
-    (wrote_then (decimal (v / 10)) (digit (v % 10) ∷ []) c.put-next.ensures (wrote_one c.put-next.new.out c.put-next.result (digit (v % 10))))
+    (wrote_then (decimal (v / 10)) (digit (v % 10) ∷ []) c.put-last.ensures (wrote_one c.put-last.new.out c.put-last.result (digit (v % 10))))

@@ -8,5 +8,5 @@ use Rattle.printed.proofs.lines.put_first.Goals as goal
 pub returns : goal.returns
 returns c =
     let a = c.args in
-    wrote_then (word a.clock.0 32) (word a.held.0 32 ++ word a.settled.0 10) c.put_word-second.ensures
-    (wrote_then (word a.held.0 32) (word a.settled.0 10) c.put_word-third.ensures c.put_word.ensures)
+    wrote_then (word a.clock.0 32) (word a.held.0 32 ++ word a.settled.0 10) c.put_word-at.ensures
+    (wrote_then (word a.held.0 32) (word a.settled.0 10) c.put_word-at-2.ensures c.put_word.ensures)

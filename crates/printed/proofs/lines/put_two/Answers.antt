@@ -7,4 +7,4 @@ use Rattle.printed.proofs.lines.put_two.Goals as goal
 pub returns : goal.returns
 returns c =
     let a = c.args in
-    wrote_then (word a.first 32) (word a.second 10) c.put_word-next.ensures c.put_word.ensures
+    wrote_then (word a.first 32) (word a.second 10) c.put_word-at.ensures c.put_word.ensures

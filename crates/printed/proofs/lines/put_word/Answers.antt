@@ -8,5 +8,5 @@ use Rattle.printed.proofs.lines.put_word.Goals as goal
 
 pub returns : goal.returns
 returns c =
-    wrote_then (decimal c.args.value) (c.args.behind ∷ []) c.put-next.ensures
-    (wrote_one c.put-next.new.out c.put-next.result c.args.behind)
+    wrote_then (decimal c.args.value) (c.args.behind ∷ []) c.put-end.ensures
+    (wrote_one c.put-end.new.out c.put-end.result c.args.behind)
