@@ -1,3 +1,4 @@
+pub mod Answers
 pub mod Judging
 pub mod Passing
 pub mod Calls

@@ -6,14 +6,10 @@ use Rattle.laws.specs.Told.{Told, gives, refuses, Found, given_or, number_of, pl
 use Rattle.sha256.specs.Sha256.{digest_of}
 use Rattle.sha256.specs.Answer.{bytes_of}
 use Rattle.order.specs.declared.BlockCount.{BlockCount}
-use Rattle.refusal.specs.declared.Answer.{Answer}
-use Rattle.refusal.specs.declared.Answer.TheVariants.{Good, Refused}
 use Rattle.genesis.specs.Genesis.{genesis_of}
 use Rattle.genesis.specs.Answers.{table_of}
 use Rattle.block.specs.Block.{Parts}
 use Rattle.block.specs.Blocks.{block_of}
-use Rattle.block.specs.declared.reading.Place.{Place}
-use Rattle.block.specs.declared.reading.Place.TheVariants as place
 use Rattle.walk.specs.Walk.{Ahead, block, end, place_after, block_beside}
 use Rattle.chain.specs.Answers.{end_or}
 use Rattle.adopt.specs.Adopt.{chosen}
@@ -109,25 +105,3 @@ issue_answer before t = record { refusal = number_of t; place = block_place t; l
 
 abbrev pub manifest_answer : Told (Unit {0}) → ManifestAnswer
 manifest_answer t = record { refusal = number_of t; place = block_place t }
-
--- ---- what the parts of an answer come to, in the code
-abbrev pub number_in : Answer → ℕ
-number_in Good = 0
-number_in (Refused number place) = number
-
-abbrev pub place_in : Answer → BlockCount
-place_in Good = record { 0 = 0 }
-place_in (Refused number place) = place
-
-abbrev pub good_in : Answer → Bool
-good_in Good = true
-good_in (Refused number place) = false
-
--- of calls on one block
-abbrev pub number_at : Place → ℕ
-number_at (place.Next next) = 0
-number_at (place.Refused number) = number
-
-abbrev pub next_at : Place → ℕ
-next_at (place.Next next) = next
-next_at (place.Refused number) = 0

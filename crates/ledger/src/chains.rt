@@ -3,10 +3,10 @@ ghost use Rattle.std.specs.Prelude.{◌≡◌};
 ghost use Rattle.chain.specs.Chain.{checked};
 ghost use Rattle.adopt.specs.Adopt.{accepted, choice, adopted, adopting};
 ghost use Rattle.report.specs.Report.{reported};
-ghost use Rattle.ledger.specs.Answers.{check_answer, choose_answer, adopt_answer, report_answer, number_in, place_in, good_in};
+ghost use Rattle.ledger.specs.Answers.{check_answer, choose_answer, adopt_answer, report_answer};
 
+use crate::NOWHERE;
 use order::{BlockCount, Release, Slot};
-use refusal::Answer;
 
 // The block count and the releases after the last block, zeros where the chain was refused.
 #[repr(C)]
@@ -58,15 +58,22 @@ pub extern "C" fn ledger_check(
 ) -> CheckAnswer
     ensures { result ≡ check_answer (checked genesis.now clock.0 chain.now verdicts.now) }
 {
-    let checked = chain::check(genesis, clock, chain, verdicts);
-    let answer = checked.answer;
-    let count = checked.count;
-    let releases = checked.releases;
-    CheckAnswer {
-        refusal: number_of(answer),
-        place: place_of(answer),
-        count,
-        releases,
+    match chain::check(genesis, clock, chain, verdicts) {
+        Ok(checked) => {
+            let releases = checked.releases;
+            CheckAnswer {
+                refusal: 0,
+                place: NOWHERE,
+                count: checked.count,
+                releases,
+            }
+        }
+        Err(refused) => CheckAnswer {
+            refusal: refused.refusal.number(),
+            place: refused.place,
+            count: BlockCount(0),
+            releases: [0; 64],
+        },
     }
 }
 
@@ -82,11 +89,17 @@ pub extern "C" fn ledger_choose(
     ensures { result ≡ choose_answer
         (choice genesis.now clock.0 held.now delivered.now verdicts.now) }
 {
-    let answer = adopt::judge(genesis, clock, held, held.len(), delivered, verdicts).answer;
-    ChooseAnswer {
-        refusal: number_of(answer),
-        place: place_of(answer),
-        delivered: is_good(answer),
+    match adopt::judge(genesis, clock, held, held.len(), delivered, verdicts) {
+        Ok(_) => ChooseAnswer {
+            refusal: 0,
+            place: NOWHERE,
+            delivered: true,
+        },
+        Err(refused) => ChooseAnswer {
+            refusal: refused.refusal.number(),
+            place: refused.place,
+            delivered: false,
+        },
     }
 }
 
@@ -106,14 +119,19 @@ pub extern "C" fn ledger_adopt(
         (accepted genesis.now clock.0 held.old length delivered.now verdicts.now)
         held.old delivered.now }
 {
-    let adopted = adopt::adopt(genesis, clock, held, length, delivered, verdicts);
-    let answer = adopted.answer;
-    let count = adopted.count;
-    AdoptAnswer {
-        refusal: number_of(answer),
-        place: place_of(answer),
-        length: adopted.length,
-        count,
+    match adopt::adopt(genesis, clock, held, length, delivered, verdicts) {
+        Ok(adopted) => AdoptAnswer {
+            refusal: 0,
+            place: NOWHERE,
+            length: adopted.length,
+            count: adopted.count,
+        },
+        Err(refused) => AdoptAnswer {
+            refusal: refused.refusal.number(),
+            place: refused.place,
+            length,
+            count: BlockCount(0),
+        },
     }
 }
 
@@ -126,46 +144,25 @@ pub extern "C" fn ledger_report(
 ) -> ReportAnswer
     ensures { result ≡ report_answer (reported genesis.now clock.0 held.now length) }
 {
-    let report = report::report(genesis, clock, held, length);
-    let answer = report.answer;
-    let whole = report.held;
-    let settled = report.settled;
-    let releases = report.releases;
-    ReportAnswer {
-        refusal: number_of(answer),
-        place: place_of(answer),
-        held: whole,
-        settled,
-        settled_length: report.length,
-        releases,
-    }
-}
-
-// The refusal's number, 0 where there is none.
-pub fn number_of(answer: Answer) -> u32
-    ensures { result ≡ number_in answer }
-{
-    match answer {
-        Answer::Good => 0,
-        Answer::Refused(number, _) => number,
-    }
-}
-
-// And its place.
-pub fn place_of(answer: Answer) -> BlockCount
-    ensures { result ≡ place_in answer }
-{
-    match answer {
-        Answer::Good => BlockCount(0),
-        Answer::Refused(_, place) => place,
-    }
-}
-
-fn is_good(answer: Answer) -> bool
-    ensures { result ≡ good_in answer }
-{
-    match answer {
-        Answer::Good => true,
-        Answer::Refused(_, _) => false,
+    match report::report(genesis, clock, held, length) {
+        Ok(report) => {
+            let releases = report.releases;
+            ReportAnswer {
+                refusal: 0,
+                place: NOWHERE,
+                held: report.held,
+                settled: report.settled,
+                settled_length: report.length,
+                releases,
+            }
+        }
+        Err(refused) => ReportAnswer {
+            refusal: refused.refusal.number(),
+            place: refused.place,
+            held: BlockCount(0),
+            settled: BlockCount(0),
+            settled_length: 0,
+            releases: [0; 64],
+        },
     }
 }

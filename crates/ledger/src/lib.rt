@@ -9,6 +9,8 @@ mod numbers;
 mod pools;
 mod tables;
 
+use order::BlockCount;
+
 pub use blocks::{
     BlockAnswer, StepAnswer, ledger_read_block, ledger_slot_text, ledger_walk_step,
     ledger_write_block,
@@ -28,3 +30,6 @@ pub use pools::{
 pub use tables::{
     GenesisAnswer, KeyAnswer, ledger_depth, ledger_find_key, ledger_read_genesis, ledger_turn,
 };
+
+// The place of an answer that refuses no block.
+const NOWHERE: BlockCount = BlockCount(0);

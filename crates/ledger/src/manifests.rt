@@ -3,7 +3,7 @@ ghost use Rattle.std.specs.Prelude.{◌≡◌};
 ghost use Rattle.manifest.specs.Manifest.{checked};
 ghost use Rattle.ledger.specs.Answers.{manifest_answer};
 
-use crate::chains::{number_of, place_of};
+use crate::NOWHERE;
 use order::{BlockCount, Release};
 
 // The check gives nothing but its verdict: the manifest is accepted where there is no refusal.
@@ -23,9 +23,12 @@ pub extern "C" fn ledger_check_manifest(
 ) -> ManifestAnswer
     ensures { result ≡ manifest_answer (checked image.now manifest.now key.now settled) }
 {
-    let answer = manifest::check(image, manifest, key, settled);
+    let refusal = match manifest::check(image, manifest, key, settled) {
+        Ok(()) => 0,
+        Err(refusal) => refusal.number(),
+    };
     ManifestAnswer {
-        refusal: number_of(answer),
-        place: place_of(answer),
+        refusal,
+        place: NOWHERE,
     }
 }

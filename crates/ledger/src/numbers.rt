@@ -2,12 +2,13 @@
 ghost use Rattle.std.specs.Prelude.{◌≡◌, leb};
 ghost use Rattle.laws.specs.Placed.{placed_if, placing_if};
 ghost use Rattle.number.specs.Number.{largest, written, number_at};
+ghost use Rattle.refusal.specs.Answers.{told};
 ghost use Rattle.ledger.specs.Answers.{number_answer, write_answer, digest_answer};
 
-use number::{Number, Reading, Writing};
+use crate::NOWHERE;
+use number::Number;
 use order::BlockCount;
-use refusal::{BAD_NUMBER, CUT, SHORT_BUFFER, TOO_LONG};
-use sha256::Answer;
+use refusal::Refusal;
 
 // A number, and the place after it.
 #[repr(C)]
@@ -36,26 +37,39 @@ pub struct DigestAnswer {
     pub digest: [u8; 32],
 }
 
+impl From<Result<usize, Refusal>> for WriteAnswer {
+    ghost from_gives = { λ written answer. answer ≡ write_answer (told written) };
+
+    fn from(written: Result<usize, Refusal>) -> WriteAnswer {
+        match written {
+            Ok(next) => WriteAnswer {
+                refusal: 0,
+                place: NOWHERE,
+                next,
+            },
+            Err(refusal) => WriteAnswer {
+                refusal: refusal.number(),
+                place: NOWHERE,
+                next: 0,
+            },
+        }
+    }
+}
+
 #[unsafe(no_mangle)]
 pub extern "C" fn ledger_read_number(bytes: &[u8], at: usize) -> NumberAnswer
     ensures { result ≡ number_answer (number_at bytes.now at) }
 {
     match number::read(bytes, at) {
-        Reading::Value(value, next) => NumberAnswer {
+        Ok((value, next)) => NumberAnswer {
             refusal: 0,
-            place: BlockCount(0),
+            place: NOWHERE,
             value,
             next,
         },
-        Reading::Cut => NumberAnswer {
-            refusal: CUT,
-            place: BlockCount(0),
-            value: 0,
-            next: 0,
-        },
-        Reading::Badly => NumberAnswer {
-            refusal: BAD_NUMBER,
-            place: BlockCount(0),
+        Err(refusal) => NumberAnswer {
+            refusal: refusal.number(),
+            place: NOWHERE,
             value: 0,
             next: 0,
         },
@@ -67,39 +81,23 @@ pub extern "C" fn ledger_write_number(value: Number, at: usize, out: &mut [u8]) 
     ensures answer { result ≡ write_answer (placed_if (leb value largest) 4 out.old at (written value)) }
     ensures out { out.new ≡ placing_if (leb value largest) out.old at (written value) }
 {
-    match number::write(out, at, value) {
-        Writing::Next(next) => WriteAnswer {
-            refusal: 0,
-            place: BlockCount(0),
-            next,
-        },
-        Writing::Large => WriteAnswer {
-            refusal: BAD_NUMBER,
-            place: BlockCount(0),
-            next: 0,
-        },
-        Writing::Short => WriteAnswer {
-            refusal: SHORT_BUFFER,
-            place: BlockCount(0),
-            next: 0,
-        },
-    }
+    number::write(out, at, value).into()
 }
 
 #[unsafe(no_mangle)]
 pub extern "C" fn ledger_digest(message: &[u8]) -> DigestAnswer
     ensures { result ≡ digest_answer message.now }
 {
-    let digested = sha256::digest(message);
-    let answer = digested.answer;
-    let digest = digested.bytes;
-    let refusal = match answer {
-        Answer::Done => 0,
-        Answer::TooLong => TOO_LONG,
-    };
-    DigestAnswer {
-        refusal,
-        place: BlockCount(0),
-        digest,
+    match sha256::digest(message) {
+        Ok(digest) => DigestAnswer {
+            refusal: 0,
+            place: NOWHERE,
+            digest,
+        },
+        Err(refusal) => DigestAnswer {
+            refusal: refusal.number(),
+            place: NOWHERE,
+            digest: [0; 32],
+        },
     }
 }

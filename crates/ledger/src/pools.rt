@@ -2,9 +2,11 @@
 ghost use Rattle.std.specs.Prelude.{◌≡◌};
 ghost use Rattle.pool.specs.Pool.{added, dropped};
 ghost use Rattle.issue.specs.Issue as spec;
+ghost use Rattle.chain.specs.Answers.{told};
 ghost use Rattle.ledger.specs.Answers.{pool_answer, issue_answer};
 
-use crate::chains::{number_of, place_of};
+use crate::NOWHERE;
+use chain::Refused;
 use order::{BlockCount, Order, Slot};
 use pool::Pool;
 
@@ -42,14 +44,7 @@ pub extern "C" fn ledger_drop_entries(
 ) -> PoolAnswer
     ensures { result ≡ pool_answer pool (dropped genesis.now clock.0 held.now length pool) }
 {
-    let pooled = pool::drop(genesis, clock, held, length, pool);
-    let answer = pooled.answer;
-    let after = pooled.pool;
-    PoolAnswer {
-        refusal: number_of(answer),
-        place: place_of(answer),
-        pool: after,
-    }
+    pooled(pool::drop(genesis, clock, held, length, &pool), pool)
 }
 
 #[unsafe(no_mangle)]
@@ -64,14 +59,7 @@ pub extern "C" fn ledger_add_order(
 ) -> PoolAnswer
     ensures { result ≡ pool_answer pool (added genesis.now clock.0 held.now length pool order depot) }
 {
-    let pooled = pool::add(genesis, clock, held, length, pool, order, depot);
-    let answer = pooled.answer;
-    let after = pooled.pool;
-    PoolAnswer {
-        refusal: number_of(answer),
-        place: place_of(answer),
-        pool: after,
-    }
+    pooled(pool::add(genesis, clock, held, length, &pool, order, depot), pool)
 }
 
 #[unsafe(no_mangle)]
@@ -92,16 +80,17 @@ pub extern "C" fn ledger_draft(
         (spec.front genesis.now clock.0 held.now length pool controller slot_signature.bytes)
         out.old 0 }
 {
-    let signature = slot_signature.bytes;
     let issued = issue::draft(
-        genesis, clock, held, length, pool, controller, signature, out,
+        genesis,
+        clock,
+        held,
+        length,
+        &pool,
+        controller,
+        slot_signature.bytes,
+        out,
     );
-    let answer = issued.answer;
-    IssueAnswer {
-        refusal: number_of(answer),
-        place: place_of(answer),
-        length: issued.length,
-    }
+    issued_or(issued, 0)
 }
 
 #[unsafe(no_mangle)]
@@ -122,16 +111,17 @@ pub extern "C" fn ledger_block_text(
         (spec.front genesis.now clock.0 held.now length pool controller slot_signature.bytes)
         out.old 0 }
 {
-    let signature = slot_signature.bytes;
     let issued = issue::block_text(
-        genesis, clock, held, length, pool, controller, signature, out,
+        genesis,
+        clock,
+        held,
+        length,
+        &pool,
+        controller,
+        slot_signature.bytes,
+        out,
     );
-    let answer = issued.answer;
-    IssueAnswer {
-        refusal: number_of(answer),
-        place: place_of(answer),
-        length: issued.length,
-    }
+    issued_or(issued, 0)
 }
 
 #[unsafe(no_mangle)]
@@ -152,15 +142,51 @@ pub extern "C" fn ledger_append(
         (spec.front genesis.now clock.0 held.old length pool controller slot_signature.bytes)
         held.old length }
 {
-    let signature = slot_signature.bytes;
-    let seal = block_signature.bytes;
     let issued = issue::append(
-        genesis, clock, held, length, pool, controller, signature, seal,
+        genesis,
+        clock,
+        held,
+        length,
+        &pool,
+        controller,
+        slot_signature.bytes,
+        block_signature.bytes,
     );
-    let answer = issued.answer;
-    IssueAnswer {
-        refusal: number_of(answer),
-        place: place_of(answer),
-        length: issued.length,
+    issued_or(issued, length)
+}
+
+// The pool as it then is, or as it was before.
+fn pooled(answer: Result<Pool, Refused>, before: Pool) -> PoolAnswer
+    ensures { result ≡ pool_answer before (told answer) }
+{
+    match answer {
+        Ok(pool) => PoolAnswer {
+            refusal: 0,
+            place: NOWHERE,
+            pool,
+        },
+        Err(refused) => PoolAnswer {
+            refusal: refused.refusal.number(),
+            place: refused.place,
+            pool: before,
+        },
+    }
+}
+
+// A length as it then is, or as it was before.
+fn issued_or(issued: Result<usize, Refused>, before: usize) -> IssueAnswer
+    ensures { result ≡ issue_answer before (told issued) }
+{
+    match issued {
+        Ok(length) => IssueAnswer {
+            refusal: 0,
+            place: NOWHERE,
+            length,
+        },
+        Err(refused) => IssueAnswer {
+            refusal: refused.refusal.number(),
+            place: refused.place,
+            length: before,
+        },
     }
 }

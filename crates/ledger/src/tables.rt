@@ -3,9 +3,9 @@ ghost use Rattle.std.specs.Prelude.{◌≡◌};
 ghost use Rattle.genesis.specs.Genesis as spec;
 ghost use Rattle.ledger.specs.Answers.{genesis_answer, key_answer};
 
-use genesis::{Answer, Genesis, KeyPlace};
+use crate::NOWHERE;
+use genesis::Genesis;
 use order::{BlockCount, Slot};
-use refusal::BAD_GENESIS;
 
 // The table is all zeros where it was refused.
 #[repr(C)]
@@ -29,17 +29,17 @@ pub struct KeyAnswer {
 pub extern "C" fn ledger_read_genesis(bytes: &[u8]) -> GenesisAnswer
     ensures { result ≡ genesis_answer bytes.now }
 {
-    let read = genesis::read(bytes);
-    let answer = read.answer;
-    let table = read.table;
-    let refusal = match answer {
-        Answer::Read => 0,
-        Answer::Refused => BAD_GENESIS,
-    };
-    GenesisAnswer {
-        refusal,
-        place: BlockCount(0),
-        table,
+    match genesis::read(bytes) {
+        Ok(table) => GenesisAnswer {
+            refusal: 0,
+            place: NOWHERE,
+            table,
+        },
+        Err(refusal) => GenesisAnswer {
+            refusal: refusal.number(),
+            place: NOWHERE,
+            table: genesis::none(),
+        },
     }
 }
 
@@ -48,14 +48,14 @@ pub extern "C" fn ledger_find_key(bytes: &[u8], controller: u32) -> KeyAnswer
     ensures { result ≡ key_answer (spec.key_at bytes.now controller) }
 {
     match genesis::find_key(bytes, controller) {
-        KeyPlace::At(at) => KeyAnswer {
+        Ok(at) => KeyAnswer {
             refusal: 0,
-            place: BlockCount(0),
+            place: NOWHERE,
             at,
         },
-        KeyPlace::Refused(number) => KeyAnswer {
-            refusal: number,
-            place: BlockCount(0),
+        Err(refusal) => KeyAnswer {
+            refusal: refusal.number(),
+            place: NOWHERE,
             at: 0,
         },
     }

@@ -2,11 +2,11 @@
 -- Assumes nothing.
 use mathlib.Core.Path.{◌≡◌, refl, subst}
 use mathlib.Core.List.{List}
-use Prim.Native.Nat.{ℕ, zero, suc, ◌+◌, ◌-◌, ◌*◌, ◌%◌, ◌<◌, ◌≤◌}
+use Prim.Native.Nat.{ℕ, zero, suc, ◌+◌, ◌-◌, ◌*◌, ◌%◌, ◌^◌, ◌<◌, ◌≤◌}
 use native.Mathlib.Omega.{arith}
-use native.Mathlib.Nat.{mul_comm}
+use native.Mathlib.Nat.{mul_comm, pow-le-pow_right}
 use Rattle.laws.proofs.Cases.{lt_cases}
-use lib.Dec.{ltb}
+use lib.Dec.{ltb, lit<}
 use lib.ListN.{length, get_or}
 use borrow.Author.Tests.{lt-ltb, le-ltb, ltb-true}
 use Rattle.laws.specs.Told.{Told, gives, refuses, Found, found}
@@ -28,6 +28,10 @@ finished_joined low scale group (gives r) =
     let same : low + (group % 128 + 128 * r.value) * scale ≡ low + group % 128 * scale + r.value * (scale * 128) = omega arith in
     simp (lt-ltb _ _ more, lt-ltb _ _ positive, same))
     (λ none. simp (le-ltb _ _ none))
+
+-- what the loop multiplies by stays below 128 to the fourth
+pub small_scale : (groups scale : ℕ) → groups < 5 → scale ≡ 128 ^ groups → scale ≤ 128 ^ 4
+small_scale groups scale few is = let at_most : groups ≤ 4 = omega arith in rw is (pow-le-pow_right {n = 128} (lit< tt) at_most)
 
 -- what a turn finds where fewer than five groups were passed
 module _ (low scale passed : ℕ) (s : List ℕ) (at : ℕ) (few : passed < 5) where

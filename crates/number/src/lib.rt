@@ -37,8 +37,7 @@ fn rest(s: &[u8], from: usize, low: Number) -> Result<(Number, usize), Refusal>
     let mut at = from;
     let mut value = low;
     let mut scale: Number = 128;
-    let mut groups: usize = 1;
-    while groups < 5 {
+    for _groups in 1..5usize {
         if s.len() <= at {
             return Err(Refusal::Cut);
         }
@@ -52,7 +51,6 @@ fn rest(s: &[u8], from: usize, low: Number) -> Result<(Number, usize), Refusal>
         }
         value += group % 128 * scale;
         scale *= 128;
-        groups += 1;
     }
     Err(Refusal::BadNumber)
 }

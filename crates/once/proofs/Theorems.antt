@@ -2,18 +2,15 @@
 -- lent to be written. `Post` is the function's contract, read off the code: these would not hold of a weaker one.
 -- Assumes nothing.
 use mathlib.Core.Path.{sym, ap, ◌∙◌}
-use Rattle.laws.specs.Told.{given_or}
 use Rattle.laws.specs.NoChoice.{OneAnswer, OneLater}
-use Rattle.chain.specs.Answers.{opened_or, held_or}
-use Rattle.chain.specs.Chain.{opened}
-use Rattle.adopt.proofs.Answers.{adopted_faithful, judged_faithful}
+use Rattle.refusal.proofs.Answers.{told_faithful, found_faithful}
+use Rattle.chain.proofs.Answers.{told_faithful as placed_faithful}
 use Rattle.adopt.proofs.adopt.Kinds as adopt-kinds
 use Rattle.adopt.proofs.adopt.Reads as adopt
 use Rattle.adopt.proofs.choose.Kinds as adopt-choose-kinds
 use Rattle.adopt.proofs.choose.Reads as adopt-choose
 use Rattle.adopt.proofs.judge.Kinds as adopt-judge-kinds
 use Rattle.adopt.proofs.judge.Reads as adopt-judge
-use Rattle.block.proofs.Answers.{block_faithful, body_faithful, place_faithful}
 use Rattle.block.proofs.length.Kinds as block-length-kinds
 use Rattle.block.proofs.length.Reads as block-length
 use Rattle.block.proofs.none.Kinds as block-no-block-kinds
@@ -28,14 +25,10 @@ use Rattle.block.proofs.write.Kinds as block-write-block-kinds
 use Rattle.block.proofs.write.Reads as block-write-block
 use Rattle.block.proofs.write_front.Kinds as block-write-front-kinds
 use Rattle.block.proofs.write_front.Reads as block-write-front
-use Rattle.buffer.proofs.Answers.{writing_faithful}
-use Rattle.buffer.proofs.after.Kinds as buffer-after-kinds
-use Rattle.buffer.proofs.after.Reads as buffer-after
 use Rattle.buffer.proofs.fits.Kinds as buffer-fits-kinds
 use Rattle.buffer.proofs.fits.Reads as buffer-fits
 use Rattle.buffer.proofs.put.Kinds as buffer-put-kinds
 use Rattle.buffer.proofs.put.Reads as buffer-put
-use Rattle.chain.proofs.Answers.{checked_faithful, holding_faithful, opening_faithful, passed_faithful}
 use Rattle.chain.proofs.check.Kinds as chain-check-kinds
 use Rattle.chain.proofs.check.Reads as chain-check
 use Rattle.chain.proofs.delivered.Kinds as chain-delivered-kinds
@@ -46,7 +39,6 @@ use Rattle.chain.proofs.hold.Kinds as chain-hold-kinds
 use Rattle.chain.proofs.hold.Reads as chain-hold
 use Rattle.chain.proofs.open.Kinds as chain-open-kinds
 use Rattle.chain.proofs.open.Reads as chain-open
-use Rattle.genesis.proofs.Answers.{key_faithful, table_faithful}
 use Rattle.genesis.proofs.clock_fits.Kinds as genesis-clock-fits-kinds
 use Rattle.genesis.proofs.clock_fits.Reads as genesis-clock-fits
 use Rattle.genesis.proofs.depth.Kinds as genesis-depth-kinds
@@ -59,7 +51,6 @@ use Rattle.genesis.proofs.read.Kinds as genesis-read-genesis-kinds
 use Rattle.genesis.proofs.read.Reads as genesis-read-genesis
 use Rattle.genesis.proofs.turn.Kinds as genesis-turn-kinds
 use Rattle.genesis.proofs.turn.Reads as genesis-turn
-use Rattle.issue.proofs.Answers.{issued_faithful}
 use Rattle.issue.proofs.append.Kinds as issue-append-kinds
 use Rattle.issue.proofs.append.Reads as issue-append
 use Rattle.issue.proofs.block_text.Kinds as issue-block-text-kinds
@@ -108,13 +99,10 @@ use Rattle.ledger.proofs.ledger_write_block.Kinds as ledger-write-block-kinds
 use Rattle.ledger.proofs.ledger_write_block.Reads as ledger-write-block
 use Rattle.ledger.proofs.ledger_write_number.Kinds as ledger-write-number-kinds
 use Rattle.ledger.proofs.ledger_write_number.Reads as ledger-write-number
-use Rattle.lms.proofs.Answers.{verified_faithful}
 use Rattle.lms.proofs.verify.Kinds as lms-verify-kinds
 use Rattle.lms.proofs.verify.Reads as lms-verify
-use Rattle.manifest.proofs.Answers.{check_faithful}
 use Rattle.manifest.proofs.check.Kinds as manifest-check-kinds
 use Rattle.manifest.proofs.check.Reads as manifest-check
-use Rattle.number.proofs.Answers.{reading_faithful, writing_faithful as number-writing-faithful}
 use Rattle.number.proofs.length.Kinds as number-length-kinds
 use Rattle.number.proofs.length.Reads as number-length
 use Rattle.number.proofs.read.Kinds as number-read-number-kinds
@@ -139,7 +127,6 @@ use Rattle.order.proofs.take.Kinds as order-take-an-order-kinds
 use Rattle.order.proofs.take.Reads as order-take-an-order
 use Rattle.order.proofs.valid.Kinds as order-valid-kinds
 use Rattle.order.proofs.valid.Reads as order-valid
-use Rattle.pool.proofs.Answers.{pooled_faithful}
 use Rattle.pool.proofs.counting.Kinds as pool-counting-kinds
 use Rattle.pool.proofs.counting.Reads as pool-counting
 use Rattle.pool.proofs.fits.Kinds as pool-fits-kinds
@@ -152,17 +139,12 @@ use Rattle.pool.proofs.take.Kinds as pool-take-kinds
 use Rattle.pool.proofs.take.Reads as pool-take
 use Rattle.printed.proofs.station.Kinds as printed-station-kinds
 use Rattle.printed.proofs.station.Reads as printed-station
-use Rattle.report.proofs.Answers.{report_faithful}
-use Rattle.report.proofs.refused.Kinds as report-refused-report-kinds
-use Rattle.report.proofs.refused.Reads as report-refused-report
 use Rattle.report.proofs.report.Kinds as report-kinds
 use Rattle.report.proofs.report.Reads as report
-use Rattle.sha256.proofs.Answers.{digest_faithful}
 use Rattle.sha256.proofs.digest.Kinds as sha256-digest-kinds
 use Rattle.sha256.proofs.digest.Reads as sha256-digest
 use Rattle.sha256.proofs.stands_at.Kinds as sha256-stands-at-kinds
 use Rattle.sha256.proofs.stands_at.Reads as sha256-stands-at
-use Rattle.walk.proofs.Answers.{step_faithful}
 use Rattle.walk.proofs.place_after.Kinds as walk-place-after-kinds
 use Rattle.walk.proofs.place_after.Reads as walk-place-after
 use Rattle.walk.proofs.step.Kinds as walk-step-kinds
@@ -178,41 +160,38 @@ pub fits_answers_once : OneAnswer 0 buffer-fits-kinds.ps buffer-fits-kinds.r buf
 fits_answers_once κs a x y s t p q = p ∙ sym q
 
 pub put_answers_once : OneAnswer 2 buffer-put-kinds.ps buffer-put-kinds.r buffer-put.Post
-put_answers_once κs a x y s t p q = writing_faithful x y (p.0 ∙ sym q.0)
+put_answers_once κs a x y s t p q = told_faithful x y (p.0 ∙ sym q.0)
 
 pub put_leaves_its_buffer_once : OneLater 2 buffer-put-kinds.ps buffer-put-kinds.r buffer-put.Post (λ κs s. s.0.now)
 put_leaves_its_buffer_once κs a x y s t p q = p.1 ∙ sym q.1
 
-pub after_answers_once : OneAnswer 0 buffer-after-kinds.ps buffer-after-kinds.r buffer-after.Post
-after_answers_once κs a x y s t p q = p ∙ sym q
-
 -- ---- number
 pub read_number_answers_once : OneAnswer 1 number-read-number-kinds.ps number-read-number-kinds.r number-read-number.Post
-read_number_answers_once κs a x y s t p q = reading_faithful x y (p ∙ sym q)
+read_number_answers_once κs a x y s t p q = found_faithful x y (p ∙ sym q)
 
 pub number_length_answers_once : OneAnswer 0 number-length-kinds.ps number-length-kinds.r number-length.Post
 number_length_answers_once κs a x y s t p q = p ∙ sym q
 
 pub write_number_answers_once : OneAnswer 1 number-write-number-kinds.ps number-write-number-kinds.r number-write-number.Post
-write_number_answers_once κs a x y s t p q = number-writing-faithful x y (p.0 ∙ sym q.0)
+write_number_answers_once κs a x y s t p q = told_faithful x y (p.0 ∙ sym q.0)
 
 pub write_number_leaves_its_buffer_once : OneLater 1 number-write-number-kinds.ps number-write-number-kinds.r number-write-number.Post (λ κs s. s.0.now)
 write_number_leaves_its_buffer_once κs a x y s t p q = p.1 ∙ sym q.1
 
 -- ---- sha256
 pub digest_answers_once : OneAnswer 1 sha256-digest-kinds.ps sha256-digest-kinds.r sha256-digest.Post
-digest_answers_once κs a x y s t p q = digest_faithful x y (paired (p.0 ∙ sym q.0) (p.1 ∙ sym q.1))
+digest_answers_once κs a x y s t p q = told_faithful x y (p ∙ sym q)
 
 pub stands_at_answers_once : OneAnswer 1 sha256-stands-at-kinds.ps sha256-stands-at-kinds.r sha256-stands-at.Post
 stands_at_answers_once κs a x y s t p q = p ∙ sym q
 
 -- ---- lms
 pub verify_answers_once : OneAnswer 3 lms-verify-kinds.ps lms-verify-kinds.r lms-verify.Post
-verify_answers_once κs a x y s t p q = verified_faithful x y (p ∙ sym q)
+verify_answers_once κs a x y s t p q = told_faithful x y (p ∙ sym q)
 
 -- ---- manifest
 pub check_manifest_answers_once : OneAnswer 3 manifest-check-kinds.ps manifest-check-kinds.r manifest-check.Post
-check_manifest_answers_once κs a x y s t p q = check_faithful x y (p ∙ sym q)
+check_manifest_answers_once κs a x y s t p q = told_faithful x y (p ∙ sym q)
 
 -- ---- order
 pub more_answers_once : OneAnswer 0 order-more-kinds.ps order-more-kinds.r order-more.Post
@@ -247,7 +226,7 @@ take_an_order_leaves_its_releases_once κs a x y s t p q = p.1 ∙ sym q.1
 
 -- ---- genesis
 pub read_genesis_answers_once : OneAnswer 1 genesis-read-genesis-kinds.ps genesis-read-genesis-kinds.r genesis-read-genesis.Post
-read_genesis_answers_once κs a x y s t p q = table_faithful x y (paired (p.0 ∙ sym q.0) (p.1 ∙ sym q.1))
+read_genesis_answers_once κs a x y s t p q = told_faithful x y (p ∙ sym q)
 
 pub no_table_answers_once : OneAnswer 0 genesis-no-table-kinds.ps genesis-no-table-kinds.r genesis-no-table.Post
 no_table_answers_once κs a x y s t p q = p ∙ sym q
@@ -262,32 +241,32 @@ pub depth_answers_once : OneAnswer 0 genesis-depth-kinds.ps genesis-depth-kinds.
 depth_answers_once κs a x y s t p q = p ∙ sym q
 
 pub find_key_answers_once : OneAnswer 1 genesis-find-key-kinds.ps genesis-find-key-kinds.r genesis-find-key.Post
-find_key_answers_once κs a x y s t p q = key_faithful x y (p ∙ sym q)
+find_key_answers_once κs a x y s t p q = told_faithful x y (p ∙ sym q)
 
 -- ---- block
 pub read_block_answers_once : OneAnswer 1 block-read-block-kinds.ps block-read-block-kinds.r block-read-block.Post
-read_block_answers_once κs a x y s t p q = block_faithful x y (paired (p.0 ∙ sym q.0) (p.1 ∙ sym q.1))
+read_block_answers_once κs a x y s t p q = found_faithful x y (p ∙ sym q)
 
 pub no_block_answers_once : OneAnswer 0 block-no-block-kinds.ps block-no-block-kinds.r block-no-block.Post
 no_block_answers_once κs a x y s t p q = p ∙ sym q
 
 pub read_body_answers_once : OneAnswer 1 block-read-body-kinds.ps block-read-body-kinds.r block-read-body.Post
-read_body_answers_once κs a x y s t p q = body_faithful x y (paired (p.0 ∙ sym q.0) (p.1 ∙ sym q.1))
+read_body_answers_once κs a x y s t p q = found_faithful x y (p ∙ sym q)
 
 pub write_block_answers_once : OneAnswer 1 block-write-block-kinds.ps block-write-block-kinds.r block-write-block.Post
-write_block_answers_once κs a x y s t p q = place_faithful x y (p.0 ∙ sym q.0)
+write_block_answers_once κs a x y s t p q = told_faithful x y (p.0 ∙ sym q.0)
 
 pub write_block_leaves_its_buffer_once : OneLater 1 block-write-block-kinds.ps block-write-block-kinds.r block-write-block.Post (λ κs s. s.0.now)
 write_block_leaves_its_buffer_once κs a x y s t p q = p.1 ∙ sym q.1
 
 pub write_front_answers_once : OneAnswer 1 block-write-front-kinds.ps block-write-front-kinds.r block-write-front.Post
-write_front_answers_once κs a x y s t p q = place_faithful x y (p.0 ∙ sym q.0)
+write_front_answers_once κs a x y s t p q = told_faithful x y (p.0 ∙ sym q.0)
 
 pub write_front_leaves_its_buffer_once : OneLater 1 block-write-front-kinds.ps block-write-front-kinds.r block-write-front.Post (λ κs s. s.0.now)
 write_front_leaves_its_buffer_once κs a x y s t p q = p.1 ∙ sym q.1
 
 pub slot_text_answers_once : OneAnswer 1 block-slot-text-kinds.ps block-slot-text-kinds.r block-slot-text.Post
-slot_text_answers_once κs a x y s t p q = place_faithful x y (p.0 ∙ sym q.0)
+slot_text_answers_once κs a x y s t p q = told_faithful x y (p.0 ∙ sym q.0)
 
 pub slot_text_leaves_its_buffer_once : OneLater 1 block-slot-text-kinds.ps block-slot-text-kinds.r block-slot-text.Post (λ κs s. s.0.now)
 slot_text_leaves_its_buffer_once κs a x y s t p q = p.1 ∙ sym q.1
@@ -297,51 +276,45 @@ block_length_answers_once κs a x y s t p q = p ∙ sym q
 
 -- ---- walk
 pub step_answers_once : OneAnswer 1 walk-step-kinds.ps walk-step-kinds.r walk-step.Post
-step_answers_once κs a x y s t p q = step_faithful x y (paired (p.0 ∙ sym q.0) (p.1 ∙ sym q.1))
+step_answers_once κs a x y s t p q = told_faithful x y (p ∙ sym q)
 
 pub place_after_answers_once : OneAnswer 1 walk-place-after-kinds.ps walk-place-after-kinds.r walk-place-after.Post
 place_after_answers_once κs a x y s t p q = p ∙ sym q
 
 pub walked_answers_once : OneAnswer 1 walked-kinds.ps walked-kinds.r walked.Post
-walked_answers_once κs a x y s t p q = step_faithful x y (paired (p.0 ∙ sym q.0) (p.1 ∙ sym q.1))
+walked_answers_once κs a x y s t p q = told_faithful x y (p ∙ sym q)
 
 pub walked_on_answers_once : OneAnswer 1 walked-on-kinds.ps walked-on-kinds.r walked-on.Post
-walked_on_answers_once κs a x y s t p q = step_faithful x y (paired (p.0 ∙ sym q.0) (p.1 ∙ sym q.1))
+walked_on_answers_once κs a x y s t p q = told_faithful x y (p ∙ sym q)
 
 -- ---- chain
 pub open_answers_once : OneAnswer 1 chain-open-kinds.ps chain-open-kinds.r chain-open.Post
-open_answers_once κs a x y s t p q = opening_faithful x y (paired (p.0 ∙ sym q.0) (p.1 ∙ sym q.1))
+open_answers_once κs a x y s t p q = told_faithful x y (p ∙ sym q)
 
 pub delivered_answers_once : OneAnswer 2 chain-delivered-kinds.ps chain-delivered-kinds.r chain-delivered.Post
-delivered_answers_once κs a x y s t p q = passed_faithful x y (paired (p.0 ∙ sym q.0) (p.1 ∙ sym q.1))
+delivered_answers_once κs a x y s t p q = placed_faithful x y (p ∙ sym q)
 
 pub held_answers_once : OneAnswer 1 chain-held-kinds.ps chain-held-kinds.r chain-held.Post
-held_answers_once κs a x y s t p q = passed_faithful x y (paired (p.0 ∙ sym q.0) (p.1 ∙ sym q.1))
+held_answers_once κs a x y s t p q = placed_faithful x y (p ∙ sym q)
 
 pub hold_answers_once : OneAnswer 2 chain-hold-kinds.ps chain-hold-kinds.r chain-hold.Post
-hold_answers_once κs a x y s t p q = holding_faithful x y (paired (p.0 ∙ sym q.0) (paired (p.1.0 ∙ sym q.1.0) (p.1.1 ∙ ap (held_or (opened_or (opened a.0.now a.1.0.0))) (p.0 ∙ sym q.0) ∙ sym q.1.1)))
+hold_answers_once κs a x y s t p q = placed_faithful x y (p ∙ sym q)
 
 pub check_answers_once : OneAnswer 3 chain-check-kinds.ps chain-check-kinds.r chain-check.Post
-check_answers_once κs a x y s t p q = checked_faithful x y (paired (p.0 ∙ sym q.0) (p.1 ∙ sym q.1))
+check_answers_once κs a x y s t p q = placed_faithful x y (p ∙ sym q)
 
 -- ---- adopt
 pub judge_answers_once : OneAnswer 4 adopt-judge-kinds.ps adopt-judge-kinds.r adopt-judge.Post
-judge_answers_once κs a x y s t p q = judged_faithful x y (paired (p.0 ∙ sym q.0) (p.1 ∙ sym q.1))
+judge_answers_once κs a x y s t p q = placed_faithful x y (p ∙ sym q)
 
 pub choose_answers_once : OneAnswer 5 adopt-choose-kinds.ps adopt-choose-kinds.r adopt-choose.Post
-choose_answers_once κs a x y s t p q = p.0 ∙ sym q.0
-
-pub choose_leaves_the_number_once : OneLater 5 adopt-choose-kinds.ps adopt-choose-kinds.r adopt-choose.Post (λ κs s. s.1.1.1.1.1.0.now)
-choose_leaves_the_number_once κs a x y s t p q = p.1.0 ∙ sym q.1.0
-
-pub choose_leaves_the_place_once : OneLater 5 adopt-choose-kinds.ps adopt-choose-kinds.r adopt-choose.Post (λ κs s. s.1.1.1.1.1.1.0.now)
-choose_leaves_the_place_once κs a x y s t p q = p.1.1 ∙ sym q.1.1
+choose_answers_once κs a x y s t p q = paired (p.0 ∙ sym q.0) (placed_faithful x.1 y.1 (p.1 ∙ sym q.1))
 
 pub adopt_answers_once : OneAnswer 4 adopt-kinds.ps adopt-kinds.r adopt.Post
-adopt_answers_once κs a x y s t p q = adopted_faithful x y (paired (p.0 ∙ sym q.0) (p.1.0 ∙ sym q.1.0))
+adopt_answers_once κs a x y s t p q = placed_faithful x y (p.0 ∙ sym q.0)
 
 pub adopt_leaves_the_held_buffer_once : OneLater 4 adopt-kinds.ps adopt-kinds.r adopt.Post (λ κs s. s.1.1.0.now)
-adopt_leaves_the_held_buffer_once κs a x y s t p q = p.1.1 ∙ sym q.1.1
+adopt_leaves_the_held_buffer_once κs a x y s t p q = p.1 ∙ sym q.1
 
 -- ---- pool
 pub pool_fits_answers_once : OneAnswer 0 pool-fits-kinds.ps pool-fits-kinds.r pool-fits.Post
@@ -354,40 +327,37 @@ pub take_answers_once : OneAnswer 0 pool-take-kinds.ps pool-take-kinds.r pool-ta
 take_answers_once κs a x y s t p q = p ∙ sym q
 
 pub drop_answers_once : OneAnswer 2 pool-drop-kinds.ps pool-drop-kinds.r pool-drop.Post
-drop_answers_once κs a x y s t p q = pooled_faithful x y (paired (p.0 ∙ sym q.0) (p.1 ∙ sym q.1))
+drop_answers_once κs a x y s t p q = placed_faithful x y (p ∙ sym q)
 
 pub add_answers_once : OneAnswer 2 pool-add-kinds.ps pool-add-kinds.r pool-add.Post
-add_answers_once κs a x y s t p q = pooled_faithful x y (paired (p.0 ∙ sym q.0) (p.1 ∙ sym q.1))
+add_answers_once κs a x y s t p q = placed_faithful x y (p ∙ sym q)
 
 -- ---- issue
 pub draft_answers_once : OneAnswer 3 issue-draft-kinds.ps issue-draft-kinds.r issue-draft.Post
-draft_answers_once κs a x y s t p q = issued_faithful x y (paired (p.0 ∙ sym q.0) (p.1.0 ∙ ap (given_or 0) (p.0 ∙ sym q.0) ∙ sym q.1.0))
+draft_answers_once κs a x y s t p q = placed_faithful x y (p.0 ∙ sym q.0)
 
 pub draft_leaves_its_buffer_once : OneLater 3 issue-draft-kinds.ps issue-draft-kinds.r issue-draft.Post (λ κs s. s.1.1.1.1.1.1.1.0.now)
-draft_leaves_its_buffer_once κs a x y s t p q = p.1.1 ∙ sym q.1.1
+draft_leaves_its_buffer_once κs a x y s t p q = p.1 ∙ sym q.1
 
 pub block_text_answers_once : OneAnswer 3 issue-block-text-kinds.ps issue-block-text-kinds.r issue-block-text.Post
-block_text_answers_once κs a x y s t p q = issued_faithful x y (paired (p.0 ∙ sym q.0) (p.1.0 ∙ ap (given_or 0) (p.0 ∙ sym q.0) ∙ sym q.1.0))
+block_text_answers_once κs a x y s t p q = placed_faithful x y (p.0 ∙ sym q.0)
 
 pub block_text_leaves_its_buffer_once : OneLater 3 issue-block-text-kinds.ps issue-block-text-kinds.r issue-block-text.Post (λ κs s. s.1.1.1.1.1.1.1.0.now)
-block_text_leaves_its_buffer_once κs a x y s t p q = p.1.1 ∙ sym q.1.1
+block_text_leaves_its_buffer_once κs a x y s t p q = p.1 ∙ sym q.1
 
 pub append_answers_once : OneAnswer 2 issue-append-kinds.ps issue-append-kinds.r issue-append.Post
-append_answers_once κs a x y s t p q = issued_faithful x y (paired (p.0 ∙ sym q.0) (p.1.0 ∙ ap (given_or _) (p.0 ∙ sym q.0) ∙ sym q.1.0))
+append_answers_once κs a x y s t p q = placed_faithful x y (p.0 ∙ sym q.0)
 
 pub append_leaves_the_held_buffer_once : OneLater 2 issue-append-kinds.ps issue-append-kinds.r issue-append.Post (λ κs s. s.1.1.0.now)
-append_leaves_the_held_buffer_once κs a x y s t p q = p.1.1 ∙ sym q.1.1
+append_leaves_the_held_buffer_once κs a x y s t p q = p.1 ∙ sym q.1
 
 -- ---- report
 pub report_answers_once : OneAnswer 2 report-kinds.ps report-kinds.r report.Post
-report_answers_once κs a x y s t p q = report_faithful x y (paired (p.0 ∙ sym q.0) (p.1 ∙ sym q.1))
-
-pub refused_report_answers_once : OneAnswer 0 report-refused-report-kinds.ps report-refused-report-kinds.r report-refused-report.Post
-refused_report_answers_once κs a x y s t p q = report_faithful x y (paired (p.0 ∙ sym q.0) (p.1 ∙ sym q.1))
+report_answers_once κs a x y s t p q = placed_faithful x y (p ∙ sym q)
 
 -- ---- printed
 pub station_answers_once : OneAnswer 2 printed-station-kinds.ps printed-station-kinds.r printed-station.Post
-station_answers_once κs a x y s t p q = writing_faithful x y (p.0 ∙ sym q.0)
+station_answers_once κs a x y s t p q = told_faithful x y (p.0 ∙ sym q.0)
 
 pub station_leaves_its_buffer_once : OneLater 2 printed-station-kinds.ps printed-station-kinds.r printed-station.Post (λ κs s. s.1.0.now)
 station_leaves_its_buffer_once κs a x y s t p q = p.1 ∙ sym q.1

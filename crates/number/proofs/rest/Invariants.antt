@@ -8,8 +8,5 @@ use Rattle.number.proofs.rest.Given as goal
 
 abbrev pub invariant-loop-groups : goal.invariant-loop-groups
 invariant-loop-groups l =
-    (l.groups ≤ 5) × (l.scale ≡ 128 ^ l.groups) × (l.value < l.scale)
-    × (finished l.low 128 (read_groups 4 l.s l.from) ≡ finished l.value l.scale (read_groups (5 - l.groups) l.s l.at))
-
-abbrev pub decreases-loop-groups : goal.decreases-loop-groups
-decreases-loop-groups l = 5 - l.groups
+    (l._groups ≤ 5) × (l.scale ≡ 128 ^ l._groups) × (l.value < l.scale)
+    × (finished l.low 128 (read_groups 4 l.s l.from) ≡ finished l.value l.scale (read_groups (5 - l._groups) l.s l.at))
