@@ -37,7 +37,12 @@ pub fn judge(
 }
 
 // A delivered chain against the held one's block count.
-fn against(opened: Opened, held: BlockCount, delivered: &[u8], verdicts: &[u8]) -> Result<BlockCount, Refused>
+fn against(
+    opened: Opened,
+    held: BlockCount,
+    delivered: &[u8],
+    verdicts: &[u8],
+) -> Result<BlockCount, Refused>
     ensures { told result ≡ given_as count_held (spec.longer held.0 (chain.delivered_chain opened delivered.now verdicts.now)) }
 {
     let whole = chain::delivered(opened, delivered, verdicts)?.whole;

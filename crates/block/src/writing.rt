@@ -79,9 +79,7 @@ pub fn length(orders: Orders, slot: Slot) -> usize
 fn in_range(orders: &Orders, slot: Slot) -> bool
     ensures { result ≡ in_range orders.now slot.0 }
 {
-    orders.count <= 8
-        && orders_in_range(orders.as_slice())
-        && in_run(slot, Slot(LAST_SLOT))
+    orders.count <= 8 && orders_in_range(orders.as_slice()) && in_run(slot, Slot(LAST_SLOT))
 }
 
 fn orders_in_range(orders: &[Order]) -> bool

@@ -11,7 +11,6 @@ use Rattle.laws.proofs.Every.{both_false}
 use Rattle.chain.specs.Chain.{longest, delivered, held, passed, begun, delivered_chain, bad, held_chain, with}
 use Rattle.chain.specs.declared.Opened.{Opened}
 
-
 module _ (o : Opened) (chain verdicts : List ℕ) where
   pub delivered_passed : length chain ≤ longest → delivered_chain o chain verdicts ≡ passed o (delivered verdicts) chain (begun o)
   unfolding delivered_chain

@@ -113,7 +113,12 @@ pub fn held(opened: Opened, buffer: &[u8], length: usize) -> Result<Summary, Ref
 
 // What every call on a held chain begins with: 1, 2, 17.
 #[inline(always)]
-pub fn hold(genesis: &[u8], clock: Slot, buffer: &[u8], length: usize) -> Result<(Opened, Summary), Refused>
+pub fn hold(
+    genesis: &[u8],
+    clock: Slot,
+    buffer: &[u8],
+    length: usize,
+) -> Result<(Opened, Summary), Refused>
     ensures { answer.told result ≡ spec.holding genesis.now clock.0 buffer.now length }
 {
     let opened = open(genesis, clock)?;

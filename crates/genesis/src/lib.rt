@@ -74,7 +74,12 @@ fn read_releases(bytes: &[u8], at: usize) -> Result<([Release; 64], usize), Refu
 }
 
 // The table, if its numbers keep the rules and its keys end where they must.
-fn checked(bytes: &[u8], head: Head, releases: [Release; 64], keys: usize) -> Result<Genesis, Refusal>
+fn checked(
+    bytes: &[u8],
+    head: Head,
+    releases: [Release; 64],
+    keys: usize,
+) -> Result<Genesis, Refusal>
     ensures { told result ≡ spec.table_at bytes.now head (record { value = releases; next = keys }) }
 {
     if !rules(head) || !keys_end(bytes, keys, head.n as u32) {

@@ -24,10 +24,11 @@ returns-in_err-release c =
 pub loop-release-preserved : goal.loop-release-preserved
 loop-release-preserved c =
     let loop = c.loop-release in
-    let told : number_at c.args.bytes.now loop.place ≡ found c.in_ok-release.field-0-0 c.in_ok-release.field-0-1 = sym (c.in_ok-release.ensures) in
-    (simp length-set loop.invariant.0,
-    into_next number_at c.args.bytes.now c.args.at 64 loop.release-items loop.release-index loop.place loop.invariant.1 c.in_ok-release.field-0-0
-        c.in_ok-release.field-0-1 (omega (arith, loop.invariant.0, c.loop-release-test.true)) (omega (arith, loop.invariant.0, c.loop-release-test.true)) told)
+    let told : number_at c.args.bytes.now loop.place ≡ found c.in_ok-release.field-0-0 c.in_ok-release.field-0-1 = sym (c.in_ok-release.ensures) in (
+      simp length-set loop.invariant.0,
+      into_next number_at c.args.bytes.now c.args.at 64 loop.release-items loop.release-index loop.place loop.invariant.1 c.in_ok-release.field-0-0
+          c.in_ok-release.field-0-1 (omega (arith, loop.invariant.0, c.loop-release-test.true)) (omega (arith, loop.invariant.0, c.loop-release-test.true)) told,
+    )
 
 pub returns : goal.returns
 returns c =

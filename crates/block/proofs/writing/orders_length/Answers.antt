@@ -22,6 +22,7 @@ pub returns : goal.returns
 returns c =
     let orders = c.args.orders.now in
     let loop = c.loop-order in
-    let whole = ap (begun orders) {x = loop.order-index} {y = length orders} (omega arith) in
-    (omega (arith, loop.invariant.0, ap length whole, ap length (all_begun orders), length-append (written (length orders)) (begun orders (length orders))),
-    omega (arith, loop.invariant.1, c.requires))
+    let whole = ap (begun orders) {x = loop.order-index} {y = length orders} (omega arith) in (
+      omega (arith, loop.invariant.0, ap length whole, ap length (all_begun orders), length-append (written (length orders)) (begun orders (length orders))),
+      omega (arith, loop.invariant.1, c.requires),
+    )

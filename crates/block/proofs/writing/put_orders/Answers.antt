@@ -16,10 +16,11 @@ put_order-place-requires c =
     let orders = c.args.orders.now in
     let loop = c.loop-order in
     let room : Room c.args.out.now c.args.at (written (length c.args.orders.now) ++ begun c.args.orders.now (length c.args.orders.now)) =
-    room_same (all_begun orders) c.requires.2 in
-    (range_at orders loop.order-index c.loop-order-test.true c.requires.1,
-    room_more orders loop.order-index c.loop-order-test.true
-        (room_then (written (length orders)) (begun orders (length orders)) c.put_number-place.ensures room) loop.invariant)
+    room_same (all_begun orders) c.requires.2 in (
+      range_at orders loop.order-index c.loop-order-test.true c.requires.1,
+      room_more orders loop.order-index c.loop-order-test.true
+          (room_then (written (length orders)) (begun orders (length orders)) c.put_number-place.ensures room) loop.invariant,
+    )
 
 pub loop-order-preserved : goal.loop-order-preserved
 loop-order-preserved c = wrote_more c.args.orders.now c.loop-order.order-index c.loop-order-test.true c.loop-order.invariant c.put_order-place.ensures
