@@ -4,15 +4,13 @@ use mathlib.Core.Path.{◌≡◌, refl, sym, ap, ◌∙◌, subst}
 use mathlib.Core.List.{List}
 use Prim.Native.Nat.{ℕ, ◌+◌, ◌-◌, ◌<◌, ◌≤◌}
 use native.Mathlib.Omega.{arith}
-use native.Mathlib.Nat.{add_assoc}
 use lib.Dec.{leb}
 use lib.ListN.{length}
 use lib.Seq.{take_at}
-use borrow.Author.Tests.{le-leb, lt-leb, leb-true}
-use Rattle.laws.specs.Told.{gives, refuses, Found, found, found_as, then, unless}
+use borrow.Author.Tests.{leb-true}
+use Rattle.laws.specs.Told.{gives, refuses, Found, found, found_as}
 use Rattle.laws.specs.Bytes.{part, bytes_at}
 use Rattle.laws.specs.Every.{within}
-use Rattle.laws.proofs.Cases.{lt_cases}
 use Rattle.laws.proofs.Every.{within_true}
 use Rattle.laws.proofs.Repeated.{repeated_moves, repeated_length}
 use Rattle.number.specs.Number.{number_at}

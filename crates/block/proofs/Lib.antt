@@ -2,6 +2,7 @@ pub mod Bodies
 pub mod Ranges
 pub mod RoundTrip
 pub mod Lists
+pub mod Fronts
 pub mod Lengths
 pub mod Theorems
 pub mod Calls

@@ -101,14 +101,23 @@ front_size f link signature =
       length-append (written f.slot.0) f.slot_signature,
     )
 
+-- and with bytes behind it, from what was counted
+pub size_with : (f : Front) (behind : List ℕ) → length f.link ≡ 32 → length f.slot_signature ≡ 64
+    → (orders : List Order) → orders ≡ unlisted f.orders
+    → (size : ℕ) → size ≡ 32 + (length (orders_bytes orders) + (length (written f.slot.0) + 64))
+    → size + length behind ≡ length (front_of f ++ behind)
+size_with f behind link signature orders listed size is =
+    omega (
+      arith,
+      is,
+      ap (λ (l : List Order). length (orders_bytes l)) listed,
+      front_size f link signature,
+      length-append (front_of f) behind,
+    )
+
 pub block_pieces : (b : Block) → block_bytes (parts_in b) ≡ front_of b.front ++ b.block_signature
 unfolding block_bytes
 block_pieces b = refl
-
-pub block_size : (b : Block) → length b.block_signature ≡ 64 → (front : ℕ) → front ≡ length (front_of b.front)
-    → front + 64 ≡ length (block_bytes (parts_in b))
-block_size b signature front is =
-    omega (arith, signature, ap length (block_pieces b), length-append (front_of b.front) b.block_signature)
 
 -- at most eight orders stand in the list
 pub unlisted_few : (o : Orders) → length o.list ≡ 8 → o.count ≤ 8 → length (unlisted o) ≡ o.count

@@ -1,5 +1,5 @@
 // A block written from its parts (01: "5, then 15"), and the slot text ("2, then 15").
-ghost use Rattle.std.specs.Prelude.{◌≡◌, true, ◌+◌, ◌≤◌, length};
+ghost use Rattle.std.specs.Prelude.{◌≡◌, true, ◌+◌, ◌≤◌, ◌++◌, length};
 ghost use Rattle.std.specs.List.{list_all};
 ghost use Rattle.laws.specs.Pick.{pick};
 ghost use Rattle.laws.specs.Every.{within};
@@ -18,19 +18,12 @@ use order::{LAST_SLOT, Order, Slot, in_run};
 use refusal::Refusal;
 
 // Writes a block, and answers the place after it.
+#[tactic(auto, unfolding(crate::specs::Block::block_bytes))]
 pub fn write(out: &mut [u8], at: usize, block: Block) -> Result<usize, Refusal>
     ensures answer { told result ≡ placed_if (front_fits block.front) 5 out.old at (block_bytes (parts_in block)) }
     ensures buffer { out.new ≡ placing_if (front_fits block.front) out.old at (block_bytes (parts_in block)) }
 {
-    let front = block.front;
-    if !in_range(&front.orders, front.slot) {
-        return Err(Refusal::OutOfRange);
-    }
-    if !fits(out.len(), at, front_length(&front) + SIGNATURE_BYTES) {
-        return Err(Refusal::ShortBuffer);
-    }
-    let end = put_front(out, at, &front);
-    Ok(put_bytes(out, end, &block.block_signature))
+    write_with(out, at, &block.front, &block.block_signature)
 }
 
 // Writes a block without its last 64 bytes, and answers the place after it.
@@ -38,13 +31,23 @@ pub fn write_front(out: &mut [u8], at: usize, front: Front) -> Result<usize, Ref
     ensures answer { told result ≡ placed_if (front_fits front) 5 out.old at (front_of front) }
     ensures buffer { out.new ≡ placing_if (front_fits front) out.old at (front_of front) }
 {
+    write_with(out, at, &front, &[])
+}
+
+// Writes a front and bytes behind it, if there is room for both.
+fn write_with(out: &mut [u8], at: usize, front: &Front, behind: &[u8]) -> Result<usize, Refusal>
+    requires { length behind.now ≤ 64 }
+    ensures answer { told result ≡ placed_if (front_fits front.now) 5 out.old at (front_of front.now ++ behind.now) }
+    ensures buffer { out.new ≡ placing_if (front_fits front.now) out.old at (front_of front.now ++ behind.now) }
+{
     if !in_range(&front.orders, front.slot) {
         return Err(Refusal::OutOfRange);
     }
-    if !fits(out.len(), at, front_length(&front)) {
+    if !fits(out.len(), at, length_with(front, behind)) {
         return Err(Refusal::ShortBuffer);
     }
-    Ok(put_front(out, at, &front))
+    let end = put_front(out, at, front);
+    Ok(put_bytes(out, end, behind))
 }
 
 // Writes the text of a slot that a host signs, and answers the place after it.
@@ -71,8 +74,7 @@ pub fn length(orders: Orders, slot: Slot) -> usize
     if !in_range(&orders, slot) {
         return 0;
     }
-    let stamp = number::length(slot.0 as Number);
-    LINK_BYTES + orders_length(orders.as_slice()) + stamp + 2 * SIGNATURE_BYTES
+    front_length(orders.as_slice(), slot) + SIGNATURE_BYTES
 }
 
 // Whether the orders and the slot lie in their ranges.
@@ -88,12 +90,21 @@ fn orders_in_range(orders: &[Order]) -> bool
     orders.iter().all(|order| order::in_range(*order))
 }
 
-fn front_length(front: &Front) -> usize
-    requires { front_fits front.now ≡ true }
-    ensures { (result ≡ length (front_of front.now)) × (result ≤ 226) }
+// How many bytes a front takes with those behind it.
+fn length_with(front: &Front, behind: &[u8]) -> usize
+    requires { (front_fits front.now ≡ true) × (length behind.now ≤ 64) }
+    ensures { result ≡ length (front_of front.now ++ behind.now) }
 {
-    let stamp = number::length(front.slot.0 as Number);
-    LINK_BYTES + orders_length(front.orders.as_slice()) + stamp + SIGNATURE_BYTES
+    front_length(front.orders.as_slice(), front.slot) + behind.len()
+}
+
+// How many bytes the front of a block takes.
+fn front_length(orders: &[Order], slot: Slot) -> usize
+    requires { length orders.now ≤ 8 }
+    ensures { (result ≡ 32 + (length (orders_bytes orders.now) + (length (written slot.0) + 64))) × (result ≤ 226) }
+{
+    let stamp = number::length(slot.0 as Number);
+    LINK_BYTES + orders_length(orders) + stamp + SIGNATURE_BYTES
 }
 
 fn orders_length(orders: &[Order]) -> usize

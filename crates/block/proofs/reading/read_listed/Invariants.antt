@@ -1,6 +1,5 @@
 -- `block::reading::read_listed` meets its contract.
 -- Assumes nothing.
-use Prim.Native.Nat.{◌-◌, ◌≤◌}
 use Rattle.laws.specs.Tabulate.{Tailed}
 use Rattle.laws.proofs.Repeated.{Into}
 use Rattle.block.specs.Block.{order_at}

@@ -3,7 +3,6 @@
 use native.Mathlib.Omega.{arith}
 use mathlib.Core.Path.{ap}
 use lib.ListN.{length, length-append}
-use lib.Seq.{take_all}
 use Rattle.number.specs.Number.{written}
 use Rattle.number.proofs.Written.{at_most_five}
 use Rattle.block.proofs.Lists.{begun, begun_size, all_begun}
