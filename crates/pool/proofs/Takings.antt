@@ -1,20 +1,19 @@
 -- What is taken of orders: no more than asked for, each valid where it stands, and in its range if the pool fits.
 -- Assumes nothing.
-use mathlib.Core.Path.{◌≡◌, refl, ap, ◌∙◌}
+use mathlib.Core.Path.{◌≡◌, refl}
 use mathlib.Core.Bool.{Bool, true, false}
 use mathlib.Core.List.{List, [], ◌∷◌, ◌++◌}
 use Prim.Native.Nat.{ℕ, ◌<◌, ◌≤◌, zero-le}
 use native.Mathlib.Omega.{arith}
 use lib.Dec.{ltb, leb}
 use lib.ListN.{length, length-append, take}
-use lib.Seq.{take_all, length-take-le}
+use Rattle.std.proofs.lemmas.List.{length-take}
 use borrow.Author.Tests.{ltb-true, leb-true}
 use Rattle.std.specs.List.{fold, list_all}
 use Rattle.laws.specs.Pick.{pick}
-use Rattle.laws.specs.Told.{gives, then, unless}
+use Rattle.laws.specs.Told.{gives, then}
 use Rattle.laws.specs.Every.{both, within}
 use Rattle.laws.specs.Format.{Each}
-use Rattle.laws.proofs.Cases.{lt_cases}
 use Rattle.laws.proofs.Every.{both_true}
 use Rattle.laws.proofs.Each.{each_append, each_weaker, each_those, every_each}
 use Rattle.order.specs.Order.{order_in_range, valid, applied, obeyed}
@@ -28,13 +27,7 @@ use Rattle.pool.specs.declared.Pool.{Pool}
 -- orders that are valid one after the other, and then more of them
 pub obeyed_append : (releases : List ℕ) (xs ys : List Order) → obeyed releases (xs ++ ys) ≡ then (obeyed releases xs) λ after. obeyed after ys
 obeyed_append releases [] ys = refl
-obeyed_append releases (x ∷ xs) ys = by_test (valid releases x) (obeyed_append (applied releases x) xs ys)
-  where
-    by_test : (fine : Bool) → obeyed (applied releases x) (xs ++ ys) ≡ then (obeyed (applied releases x) xs) (λ after. obeyed after ys)
-        → unless fine 10 0 (obeyed (applied releases x) (xs ++ ys))
-        ≡ then (unless fine 10 0 (obeyed (applied releases x) xs)) λ after. obeyed after ys
-    by_test true more = more
-    by_test false more = refl
+obeyed_append releases (x ∷ xs) ys = grind (arith, obeyed_append (applied releases x) xs ys)
 
 -- what is kept with each order that is taken
 pub record Fine (limit : ℕ) (releases : List ℕ) (t : Taking) : Type 0 where
@@ -43,17 +36,10 @@ pub record Fine (limit : ℕ) (releases : List ℕ) (t : Taking) : Type 0 where
 
 module _ (limit : ℕ) (releases : List ℕ) where
   fine_one : (t : Taking) (o : Order) → Fine limit releases t → Fine limit releases (take_one limit t o)
-  fine_one t o fine = by_test (both (ltb (length t.orders) limit) (valid t.releases o)) refl
-    where
-      by_test : (β : Bool) → both (ltb (length t.orders) limit) (valid t.releases o) ≡ β
-          → Fine limit releases (pick β (record { orders = t.orders ++ (o ∷ []); releases = applied t.releases o }) t)
-      by_test true e =
-          let (less, good) = both_true (ltb (length t.orders) limit) (valid t.releases o) e in
-          record {
-            few = omega (arith, ltb-true (length t.orders) limit less, length-append t.orders (o ∷ []));
-            obeys = obeyed_append releases t.orders (o ∷ []) ∙ rw (fine.obeys, good);
-          }
-      by_test false e = fine
+  fine_one t o fine = record {
+    few = grind (arith, fine.few, length-append);
+    obeys = grind (arith, fine.obeys, obeyed_append releases t.orders (o ∷ []));
+  }
 
   fine_all : (orders : List Order) (t : Taking) → Fine limit releases t → Fine limit releases (fold (take_one limit) t orders)
   fine_all [] t fine = fine
@@ -92,7 +78,7 @@ each_orders [] each = tt
 each_orders (e ∷ l) (here, rest) = (here, each_orders l rest)
 
 pub taken_few : {A : Type 0} (n : ℕ) (l : List A) → length (take n l) ≤ n
-taken_few n l = lt_cases (length l) n (λ less. omega (arith, ap length (take_all n l (omega arith)))) (λ more. omega (arith, length-take-le n l more))
+taken_few n l = omega (arith, length-take n l)
 
 pub entries_parts : (clock : ℕ) (p : Pool) → entries_fit clock p ≡ true → (p.count ≤ room) × Each (λ e. entry_fits clock e ≡ true) (entries_in p)
 entries_parts clock p fits =

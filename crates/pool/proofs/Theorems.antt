@@ -3,16 +3,15 @@
 -- that did not refuse". 02, n: "a dropped entry could not have become valid later".
 -- Assumes nothing.
 use Prim.Native.Nat.{ℕ, ◌<◌, ◌≤◌}
-use mathlib.Core.Path.{◌≡◌, refl, sym, ap, ◌∙◌}
-use mathlib.Core.Bool.{Bool, true, false}
+use mathlib.Core.Path.{◌≡◌, sym, ap, ◌∙◌}
+use mathlib.Core.Bool.{true, false}
 use mathlib.Core.List.{List, [], ◌∷◌, ◌++◌}
 use native.Mathlib.Omega.{arith}
-use lib.Dec.{ltb, leb}
-use lib.ListN.{length, take, get_or}
-use borrow.Author.Tests.{le-ltb, lt-ltb, ltb-true, le-leb, leb-false}
+use lib.Dec.{ltb}
+use lib.ListN.{length, take}
+use borrow.Author.Tests.{le-ltb, lt-ltb, ltb-true, le-leb}
 use Rattle.std.specs.List.{filter}
 use Rattle.laws.specs.Told.{Told, gives, refuses, then, unless, number_of}
-use Rattle.laws.specs.Every.{both}
 use Rattle.laws.specs.Repeated.{repeated}
 use Rattle.laws.proofs.Cases.{lt_cases}
 use Rattle.laws.proofs.Told.{gives_not_refuses, then_gives, unless_gives}
@@ -22,23 +21,21 @@ use Rattle.laws.proofs.Every.{both_true}
 use Rattle.number.specs.Number.{number_at}
 use Rattle.order.specs.Order.{order_in_range, valid, obeyed}
 use Rattle.order.specs.declared.Order.{Order}
-use Rattle.genesis.specs.Genesis.{head_at, table_at, faulty, genesis_of, clock_fits}
-use Rattle.chain.specs.Chain.{longest, link_of, opened, held, begun, passed, bad, held_chain, with, holding}
+use Rattle.genesis.specs.Genesis.{head_at, table_at, faulty, genesis_of}
+use Rattle.chain.specs.Chain.{opened, held, begun, passed, bad, held_chain, holding}
 use Rattle.chain.specs.declared.Opened.{Opened}
 use Rattle.chain.specs.Blocks.{followed}
 use Rattle.chain.specs.declared.Standing.{Standing}
 use Rattle.chain.proofs.Theorems.{no_release_falls}
 use Rattle.chain.proofs.Releases.{obeyed_raises}
 use Rattle.block.specs.Block.{Parts}
-use Rattle.order.proofs.Validity.{valid_parts}
 use Rattle.chain.specs.declared.Summary.{Summary}
 use Rattle.pool.specs.Pool.{room, depots, depot_room, pool_of, counting, orders_of, share_of, taking, entries_in, entry_fits, entries_fit, shares_fit, present_fits, pool_fits, counts, offer_fits, joined, added, dropped}
 use Rattle.pool.specs.Pooling.{offered}
 use Rattle.pool.specs.declared.Entry.{Entry}
 use Rattle.pool.specs.declared.Pool.{Pool}
-use Rattle.pool.proofs.Shares.{room_left}
-use Rattle.pool.proofs.Takings.{taken_few, entries_parts, present_known, present_shares, counting_fit, counting_shares}
-use Rattle.pool.proofs.Joining.{entries_of, those_twice}
+use Rattle.pool.proofs.Takings.{taken_few, entries_parts, counting_fit, counting_shares}
+use Rattle.pool.proofs.Joining.{entries_of, room_for_one, those_twice}
 
 -- past the refusals that come before 20: 1, 2, 17 (the call holds `h`), 18, 5 and 14
 pub record Past (genesis : List ℕ) (clock : ℕ) (buffer : List ℕ) (size : ℕ) (pool : Pool) (order : Order) (depot : ℕ) (h : Opened × Summary) : Type 0 where
@@ -56,8 +53,7 @@ module _ (genesis : List ℕ) (clock : ℕ) (buffer : List ℕ) (size : ℕ) (po
   room_for_it : own < depot_room → length (entries_in pool) < room
   room_for_it less =
       let (_, known) = both_true (order_in_range order) (ltb depot depots) past.offer in
-      room_left (entries_in pool) depot (present_known h.0.clock.0 pool past.fits) (present_shares h.0.clock.0 pool past.fits)
-      (ltb-true depot depots known) less
+      room_for_one h.0.clock.0 pool past.fits depot (ltb-true depot depots known) less
 
   pub refused_with_20_if_sixteen_are_its_own : depot_room ≤ own → added genesis clock buffer size pool order depot ≡ refuses 20 0
   refused_with_20_if_sixteen_are_its_own many = rw (past.holds, past.fits, past.offer, past.good, le-ltb own depot_room many)
@@ -125,28 +121,12 @@ pub a_dropped_entry_is_never_valid_again : (s : Summary) (e : Entry) → counts 
     → (blocks : List Parts) (after : Standing) → followed s.settled blocks ≡ gives after
     → (orders : List Order) (releases : List ℕ) → obeyed after.releases orders ≡ gives releases
     → valid releases e.order ≡ false
-a_dropped_entry_is_never_valid_again s e stopped blocks after extends orders releases further = by_test (valid releases e.order) refl
-  where
-    by_test : (β : Bool) → valid releases e.order ≡ β → β ≡ false
-    by_test false is = refl
-    by_test true is =
-        let (_, there, _) = valid_parts releases e.order is in
-        let above = leb-false (get_or s.settled.releases e.order.display 0) e.order.expected stopped in
-        let rose = no_release_falls s.settled blocks after extends e.order.display in
-        let rose' = obeyed_raises after.releases orders releases further e.order.display in
-        absurd (omega (arith, there, above, rose, rose'))
+a_dropped_entry_is_never_valid_again s e stopped blocks after extends orders releases further =
+    grind (arith, no_release_falls s.settled blocks after extends e.order.display, obeyed_raises after.releases orders releases further e.order.display)
 
 -- ---- 13 can no longer occur
 abbrev Never : {A : Type 0} → Told A → Type 0
 Never t = number_of t ≡ 13 → ⊥
-
-never_then : {A B : Type 0} (t : Told A) (go : A → Told B) → Never t → ((a : A) → t ≡ gives a → Never (go a)) → Never (then t go)
-never_then (gives a) go here later = later a refl
-never_then (refuses number place) go here later = here
-
-never_unless : {A : Type 0} (fine : Bool) (number : ℕ) (go : Told A) → (number ≡ 13 → ⊥) → (fine ≡ true → Never go) → Never (unless fine number 0 go)
-never_unless true number go other later = later refl
-never_unless false number go other later = other
 
 never_faulty : {A : Type 0} (t : Told A) → Never (faulty t)
 never_faulty (gives a) e = absurd (omega arith)
@@ -163,49 +143,24 @@ never_genesis genesis =
     never_faulty (then (head_at genesis) λ h. then (repeated number_at 64 genesis h.next) λ releases. table_at genesis h.value releases)
 
 never_opened : (genesis : List ℕ) (clock : ℕ) → Never (opened genesis clock)
-never_opened genesis clock =
-    never_then (genesis_of genesis)
-    (λ table. unless (clock_fits table clock) 2 0 (gives (record { table = table; link = link_of genesis; clock = record { 0 = clock } })))
-    (never_genesis genesis)
-    (λ table is.
-    never_unless (clock_fits table clock) 2 (gives (record { table = table; link = link_of genesis; clock = record { 0 = clock } }))
-    (λ e. absurd (omega arith)) (λ _ e. absurd (omega arith)))
+never_opened genesis clock e = grind (arith, never_genesis genesis)
 
 never_held : (o : Opened) (buffer : List ℕ) (size : ℕ) → Never (held_chain o buffer size)
 unfolding held_chain
-never_held o buffer size =
-    never_unless (both (leb size (length buffer)) (leb size longest)) 17 (bad (passed o held (take size buffer) (begun o)))
-    (λ e. absurd (omega arith)) (λ _. never_bad (passed o held (take size buffer) (begun o)))
+never_held o buffer size e = grind (arith, never_bad (passed o held (take size buffer) (begun o)))
 
 never_holding : (genesis : List ℕ) (clock : ℕ) (buffer : List ℕ) (size : ℕ) → Never (holding genesis clock buffer size)
-never_holding genesis clock buffer size =
-    never_then (opened genesis clock) (λ o. with o (held_chain o buffer size)) (never_opened genesis clock)
-    (λ o is. never_then (held_chain o buffer size) (λ s. gives (o, s)) (never_held o buffer size) (λ s holds e. absurd (omega arith)))
+never_holding genesis clock buffer size e = grind (arith, never_opened genesis clock, λ (o : Opened). never_held o buffer size)
 
 module _ (genesis : List ℕ) (clock : ℕ) (buffer : List ℕ) (size : ℕ) (pool : Pool) (order : Order) (depot : ℕ) where
-  never_joined : (h : Opened × Summary) → holding genesis clock buffer size ≡ gives h → present_fits h.0.clock.0 pool ≡ true
-      → Never (joined h.0 h.1 (counting h.1 pool) (entries_in pool) order depot)
-  never_joined h holds fits =
-      let l = entries_in pool in
-      let last : Told Pool = gives (pool_of (l ++ (record { order = order; slot = h.0.clock; depot = depot } ∷ []))) in
-      let room_test : Told Pool = unless (ltb (length l) room) 13 0 last in
-      let share_test : Told Pool = unless (ltb (share_of depot l) depot_room) 20 0 room_test in
-      let good_test : Bool = valid (taking room h.1.whole.releases (orders_of (counting h.1 pool))).releases order in
-      never_unless (offer_fits order depot) 5 (unless good_test 14 0 share_test) (λ e. absurd (omega arith))
-      (λ offer.
-      never_unless good_test 14 share_test (λ e. absurd (omega arith))
-      (λ good.
-      never_unless (ltb (share_of depot l) depot_room) 20 room_test (λ e. absurd (omega arith))
-      (λ less.
-      let past : Past genesis clock buffer size pool order depot h = record { holds = holds; fits = fits; offer = offer; good = good } in
-      let there : ltb (length l) room ≡ true = lt-ltb _ room (room_for_it genesis clock buffer size pool order depot h past (ltb-true _ _ less)) in
-      rw there (λ e. absurd (omega arith)))))
+  -- a depot with room in its share has room in the pool
+  never_joined : (h : Opened × Summary) → present_fits h.0.clock.0 pool ≡ true → Never (joined h.0 h.1 (counting h.1 pool) (entries_in pool) order depot)
+  never_joined h fits e = grind (arith, room_for_one h.0.clock.0 pool fits depot)
+
+  never_added : (t : Told (Opened × Summary)) → Never t
+      → Never (then t λ h. unless (present_fits h.0.clock.0 pool) 18 0 (joined h.0 h.1 (counting h.1 pool) (entries_in pool) order depot))
+  never_added (gives h) never = λ e. grind (arith, never_joined h)
+  never_added (refuses number place) never = never
 
   pub thirteen_never_occurs : number_of (added genesis clock buffer size pool order depot) ≡ 13 → ⊥
-  thirteen_never_occurs =
-      never_then (holding genesis clock buffer size)
-      (λ h. unless (present_fits h.0.clock.0 pool) 18 0 (joined h.0 h.1 (counting h.1 pool) (entries_in pool) order depot))
-      (never_holding genesis clock buffer size)
-      (λ h holds.
-      never_unless (present_fits h.0.clock.0 pool) 18 (joined h.0 h.1 (counting h.1 pool) (entries_in pool) order depot)
-      (λ e. absurd (omega arith)) (λ fits. never_joined h holds fits))
+  thirteen_never_occurs = never_added (holding genesis clock buffer size) (never_holding genesis clock buffer size)

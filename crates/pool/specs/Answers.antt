@@ -3,14 +3,9 @@
 use Rattle.std.specs.Prelude.{length}
 use Rattle.laws.specs.Told.{Told, given_or}
 use Rattle.laws.specs.Tabulate.{tailed}
-use Rattle.refusal.specs.Answers.{told_answer}
 use Rattle.pool.specs.Pool.{Taking, room, no_entry}
-use Rattle.pool.specs.declared.Pooled.{Pooled}
 use Rattle.pool.specs.declared.Pool.{Pool}
 use Rattle.pool.specs.declared.Taken.{Taken}
-
-abbrev pub told_pooled : Pooled → Told Pool
-told_pooled r = told_answer r.pool r.answer
 
 -- a refusal leaves the pool as it came
 abbrev pub pool_or : Pool → Told Pool → Pool

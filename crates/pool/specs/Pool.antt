@@ -1,6 +1,6 @@
 -- 01, "Pool an order": "The pool is up to 64 entries, each an order and its entry slot." 02, d: "Each entry carries its depot, 0 to 3".
 -- Assumes nothing.
-use Rattle.std.specs.Prelude.{ℕ, zero, suc, Bool, true, List, [], ◌∷◌, ◌++◌, map, ltb, leb, eqb, length, take, get_or}
+use Rattle.std.specs.Prelude.{ℕ, zero, suc, Bool, true, List, [], ◌∷◌, ◌++◌, ◌+◌, map, ltb, leb, eqb, length, take, get_or, set}
 use Rattle.std.specs.List.{filter, fold, list_all}
 use Rattle.laws.specs.Pick.{pick}
 use Rattle.laws.specs.Told.{Told, gives, then, unless}
@@ -33,6 +33,10 @@ entries_in p = take p.count p.entries
 
 abbrev pub pool_of : List Entry → Pool
 pool_of l = record { count = length l; entries = tailed room no_entry l }
+
+-- a pool, and an entry behind those within its count
+abbrev pub pushed : Pool → Entry → Pool
+pushed p e = record { count = p.count + 1; entries = set p.entries p.count e }
 
 -- 18: "count above 64, or within the count an entry with a display above 63, slot 0 or slot above now"; 02, b: or "a release above the largest"; d: or
 -- "a depot above 3"

@@ -2,15 +2,16 @@
 // is valid, add a last entry.
 #![tactic(auto)]
 
-ghost use Rattle.std.specs.Prelude.{◌≡◌, true, ◌+◌, ◌<◌, leb, get_or, set};
-ghost use Rattle.laws.specs.Pick.{pick};
-ghost use Rattle.laws.specs.Told.{refuses};
+ghost use Rattle.std.specs.Prelude.{◌≡◌, true, ◌<◌, ◌≤◌, leb, get_or, length};
+ghost use Rattle.std.specs.List.{list_all};
+ghost use Rattle.refusal.specs.Answers.{told};
+ghost use Rattle.chain.specs.Answers as answer;
 ghost use Rattle.pool.specs.Pool as spec;
-ghost use Rattle.pool.specs.Answers.{told_pooled, pool_or, taken_of};
+ghost use Rattle.pool.specs.Answers.{taken_of};
 
-use chain::{Opened, Summary};
-use order::{BlockCount, DISPLAYS, Order, Release, Slot, earlier};
-use refusal::{Answer, BAD_OFFER, BAD_POOL, DEPOT_FULL, OUT_OF_RANGE};
+use chain::{Opened, Refused, Summary};
+use order::{Order, Release, Slot};
+use refusal::Refusal;
 
 // How many entries a pool has room for.
 pub const ROOM: u32 = 64;
@@ -19,10 +20,10 @@ pub const ROOM: u32 = 64;
 pub const DEPOTS: u32 = 4;
 
 // How many entries a depot may have: of those that count, and where an order is added of all.
-pub const DEPOT_ROOM: u32 = 16;
+pub const DEPOT_ROOM: usize = 16;
 
 #[repr(C)]
-#[derive(Clone, Copy)]
+#[derive(Clone, Copy, Debug, PartialEq, Eq)]
 pub struct Entry {
     pub order: Order,
     // the slot in which it was pooled
@@ -31,331 +32,224 @@ pub struct Entry {
     pub depot: u32,
 }
 
-// Any pool may be handed in.
+// Written out, since a slot has no default to derive this from.
+impl Default for Entry {
+    ghost is_default = { λ entry. entry ≡ spec.no_entry };
+
+    fn default() -> Entry {
+        Entry {
+            order: Order::default(),
+            slot: Slot(0),
+            depot: 0,
+        }
+    }
+}
+
+impl Entry {
+    fn fits(&self, clock: Slot) -> bool
+        ensures { result ≡ spec.entry_fits clock.0 self.now }
+    {
+        order::in_range(self.order) && self.depot < DEPOTS && order::in_run(self.slot, clock)
+    }
+
+    // Whether it still counts: nothing newer than it expects is settled for its display. One of no display counts, since there nothing is settled.
+    fn counts(&self, settled: &[Release; 64]) -> bool
+        ensures { result ≡ leb (get_or settled.now self.now.order.display 0) self.now.order.expected }
+    {
+        settled
+            .get(self.order.display as usize)
+            .is_none_or(|release| *release <= self.order.expected)
+    }
+}
+
+// Any pool may be handed in. A count beside all its places, since it crosses to C as it is: the crate reads `present`.
 #[repr(C)]
-#[derive(Clone, Copy)]
+#[derive(Clone, Copy, Debug, PartialEq, Eq)]
 pub struct Pool {
     pub count: u32,
     pub entries: [Entry; 64],
 }
 
-// Orders that were taken, zeros behind them, and the releases after them.
-#[derive(Drop)]
+impl Pool {
+    // The entries within the count.
+    fn present(&self) -> &[Entry]
+        ensures entries { result.now ≡ spec.entries_in self.now }
+        ensures few { length result.now ≤ spec.room }
+    {
+        self.entries
+            .get(..self.count as usize)
+            .unwrap_or(&self.entries)
+    }
+
+    // Some entries, with zeros behind them.
+    fn of(entries: &[Entry]) -> Pool
+        requires { length entries.now ≤ spec.room }
+        ensures { result ≡ spec.pool_of entries.now }
+    {
+        let mut all = [Entry::default(); 64];
+        all[..entries.len()].copy_from_slice(entries);
+        Pool {
+            count: entries.len() as u32,
+            entries: all,
+        }
+    }
+
+    // Puts an entry behind those that are present.
+    fn push(&mut self, entry: Entry)
+        requires { self.old.count < spec.room }
+        ensures { self.new ≡ spec.pushed self.old entry }
+    {
+        self.entries[self.count as usize] = entry;
+        self.count += 1;
+    }
+}
+
+// Orders that were taken, zeros behind them, and the releases after them. A count beside all the places, since memory is fixed.
+#[derive(Debug, Drop, PartialEq, Eq)]
 pub struct Taken {
     pub count: u32,
     pub orders: [Order; 64],
     pub releases: [Release; 64],
 }
 
-// What dropping and adding answer: the pool as it then is, which is as it came where it was refused.
-#[derive(Drop)]
-pub struct Pooled {
-    pub answer: Answer,
-    pub pool: Pool,
-}
-
 // Whether a pool is one that the calls go on with.
 #[inline(always)]
-pub fn fits(opened: Opened, held: Summary, pool: Pool) -> bool
-    ensures { result ≡ spec.pool_fits opened held pool }
+pub fn fits(opened: &Opened, held: &Summary, pool: &Pool) -> bool
+    ensures { result ≡ spec.pool_fits opened.now held.now pool.now }
 {
-    if !entries_fit(opened.clock, pool) {
-        return false;
-    }
-    shares_fit(counting(held, pool))
+    entries_fit(opened.clock, pool) && shares_fit(counting(held, pool).present())
 }
 
 // Whether an order may be added to a pool: as before, but every entry that is present takes room.
-fn present_fits(clock: Slot, pool: Pool) -> bool
-    ensures { result ≡ spec.present_fits clock.0 pool }
+fn present_fits(clock: Slot, pool: &Pool) -> bool
+    ensures { result ≡ spec.present_fits clock.0 pool.now }
 {
-    if !entries_fit(clock, pool) {
-        return false;
-    }
-    shares_fit(pool)
+    entries_fit(clock, pool) && shares_fit(pool.present())
 }
 
-fn entries_fit(clock: Slot, pool: Pool) -> bool
-    ensures { result ≡ spec.entries_fit clock.0 pool }
+fn entries_fit(clock: Slot, pool: &Pool) -> bool
+    ensures { result ≡ spec.entries_fit clock.0 pool.now }
 {
-    if ROOM < pool.count {
-        return false;
-    }
-    let count = pool.count as usize;
-    let entries = pool.entries;
-    let mut i = 0;
-    while i < count {
-        let entry = entries[i];
-        if !entry_fits(clock, entry) {
-            return false;
-        }
-        i += 1;
-    }
-    true
+    pool.count <= ROOM && all_fit(clock, pool.present())
 }
 
-fn entry_fits(clock: Slot, entry: Entry) -> bool
-    ensures { result ≡ spec.entry_fits clock.0 entry }
+// Whether each entry fits.
+fn all_fit(clock: Slot, entries: &[Entry]) -> bool
+    ensures { result ≡ list_all (spec.entry_fits clock.0) entries.now }
 {
-    if !order::in_range(entry.order) {
-        return false;
-    }
-    if DEPOTS <= entry.depot {
-        return false;
-    }
-    earlier(Slot(0), entry.slot) && !earlier(clock, entry.slot)
+    entries.iter().all(|entry| entry.fits(clock))
 }
 
 // Whether no depot has more entries than its share.
-fn shares_fit(pool: Pool) -> bool
-    ensures { result ≡ spec.shares_fit (spec.entries_in pool) }
+fn shares_fit(entries: &[Entry]) -> bool
+    ensures { result ≡ spec.shares_fit entries.now }
 {
-    let mut depot = 0;
-    while depot < DEPOTS {
-        if DEPOT_ROOM < of_depot(pool, depot) {
-            return false;
-        }
-        depot += 1;
-    }
-    true
+    (0..DEPOTS).all(|depot| of_depot(entries, depot) <= DEPOT_ROOM)
 }
 
-// How many entries of a pool are a depot's.
-fn of_depot(pool: Pool, depot: u32) -> u32
-    ensures { result ≡ spec.share_of depot (spec.entries_in pool) }
+// How many entries are a depot's.
+fn of_depot(entries: &[Entry], depot: u32) -> usize
+    ensures { result ≡ spec.share_of depot entries.now }
 {
-    let most = least(pool.count);
-    let entries = pool.entries;
-    let mut count: u32 = 0;
-    let mut i = 0;
-    while i < most {
-        let entry = entries[i];
-        i += 1;
-        if entry.depot == depot {
-            count += 1;
-        }
-    }
-    count
-}
-
-// Whether an entry still counts: nothing newer than it expects is settled for its display. One of no display counts, since there nothing is settled.
-fn counts(releases: [Release; 64], entry: Entry) -> bool
-    ensures { result ≡ leb (get_or releases entry.order.display 0) entry.order.expected }
-{
-    let display = entry.order.display as usize;
-    if DISPLAYS <= display {
-        return true;
-    }
-    releases[display] <= entry.order.expected
+    entries.iter().filter(|entry| entry.depot == depot).count()
 }
 
 // The entries that count, in their order.
-pub fn counting(held: Summary, pool: Pool) -> Pool
-    ensures { result ≡ spec.pool_of (spec.counting held pool) }
+#[tactic(auto, using(crate::proofs::Pools::kept_few, crate::proofs::Pools::kept_more))]
+pub fn counting(held: &Summary, pool: &Pool) -> Pool
+    ensures { result ≡ spec.pool_of (spec.counting held.now pool.now) }
 {
-    let settled = held.settled;
-    let releases = settled.releases;
-    let most = least(pool.count);
-    let all = pool.entries;
-    let none = none();
-    let mut entries = [none; 64];
-    let mut count: usize = 0;
-    let mut i = 0;
-    while i < most {
-        let entry = all[i];
-        i += 1;
-        if counts(releases, entry) {
-            entries[count] = entry;
-            count += 1;
+    let mut kept = Pool::of(&[]);
+    for entry in pool.present() {
+        if entry.counts(&held.settled.releases) {
+            kept.push(*entry);
         }
     }
-    Pool {
-        count: count as u32,
-        entries,
-    }
-}
-
-// A count, as far as there are entries.
-fn least(count: u32) -> usize
-    ensures { result ≡ pick (leb count spec.room) count spec.room }
-{
-    if count <= ROOM {
-        return count as usize;
-    }
-    ROOM as usize
-}
-
-fn none() -> Entry
-    ensures { result ≡ spec.no_entry }
-{
-    Entry {
-        order: Order {
-            display: 0,
-            expected: 0,
-            new: 0,
-        },
-        slot: Slot(0),
-        depot: 0,
-    }
+    kept
 }
 
 // Takes the orders of a pool one after the other, each that is valid at that point, until so many are taken.
-pub fn take(pool: Pool, releases: [Release; 64], limit: u32) -> Taken
-    ensures { result ≡ taken_of (spec.taking limit releases (spec.orders_of (spec.entries_in pool))) }
+#[tactic(auto, using(crate::proofs::Pools::none_taken, crate::proofs::Pools::few_taken, crate::proofs::Pools::more_taken))]
+pub fn take(pool: &Pool, releases: [Release; 64], limit: u32) -> Taken
+    ensures { result ≡ taken_of (spec.taking limit releases (spec.orders_of (spec.entries_in pool.now))) }
 {
-    let most = least(pool.count);
-    let entries = pool.entries;
-    let mut releases = releases;
-    let order = none().order;
-    let mut orders = [order; 64];
-    let mut count: usize = 0;
-    let mut i = 0;
-    while i < most {
-        let entry = entries[i];
-        let order = entry.order;
-        i += 1;
-        if count < limit as usize {
-            if order::take(&mut releases, order) {
-                orders[count] = order;
-                count += 1;
-            }
+    let mut taken = Taken {
+        count: 0,
+        orders: [Order::default(); 64],
+        releases,
+    };
+    for entry in pool.present() {
+        if taken.count < limit && order::take(&mut taken.releases, entry.order) {
+            taken.orders[taken.count as usize] = entry.order;
+            taken.count += 1;
         }
     }
-    Taken {
-        count: count as u32,
-        orders,
-        releases,
-    }
+    taken
 }
 
-// Drops the entries that no longer count.
-pub fn drop(genesis: &[u8], clock: Slot, held: &[u8], length: usize, pool: Pool) -> Pooled
-    ensures answer { told_pooled result ≡ spec.dropped genesis.now clock.0 held.now length pool }
-    ensures pool { result.pool ≡ pool_or pool (spec.dropped genesis.now clock.0 held.now length pool) }
+// Drops the entries that no longer count: 18 where the pool doesn't fit. What is handed in is only read, so that a refusal leaves it as it came.
+pub fn drop(
+    genesis: &[u8],
+    clock: Slot,
+    held: &[u8],
+    length: usize,
+    pool: &Pool,
+) -> Result<Pool, Refused>
+    ensures { answer.told result ≡ spec.dropped genesis.now clock.0 held.now length pool.now }
 {
-    let holding = chain::hold(genesis, clock, held, length);
-    let answer = holding.answer;
-    let opened = holding.opened;
-    let summary = holding.summary;
-    match answer {
-        Answer::Refused(number, place) => refused(number, place, pool),
-        Answer::Good => clear(opened, summary, pool),
+    let (opened, summary) = chain::hold(genesis, clock, held, length)?;
+    if !fits(&opened, &summary, pool) {
+        return Err(Refusal::BadPool.into());
     }
+    Ok(counting(&summary, pool))
 }
 
-// The entries that count, if the pool fits: 18.
-fn clear(opened: Opened, held: Summary, pool: Pool) -> Pooled
-    ensures result_value { told_pooled result ≡ spec.cleared opened held pool }
-    ensures pool_value { result.pool ≡ pool_or pool (spec.cleared opened held pool) }
-{
-    if !fits(opened, held, pool) {
-        return refused(BAD_POOL, BlockCount(0), pool);
-    }
-    let kept = counting(held, pool);
-    Pooled {
-        answer: Answer::Good,
-        pool: kept,
-    }
-}
-
-// Adds an order to the pool, and drops nothing.
+// Adds an order to the pool, and drops nothing. What is handed in is only read, as by dropping.
 pub fn add(
     genesis: &[u8],
     clock: Slot,
     held: &[u8],
     length: usize,
-    pool: Pool,
+    pool: &Pool,
     order: Order,
     depot: u32,
-) -> Pooled
-    ensures answer { told_pooled result ≡ spec.added genesis.now clock.0 held.now length pool order depot }
-    ensures pool { result.pool ≡ pool_or pool (spec.added genesis.now clock.0 held.now length pool order depot) }
+) -> Result<Pool, Refused>
+    ensures { answer.told result ≡ spec.added genesis.now clock.0 held.now length pool.now order depot }
 {
-    let holding = chain::hold(genesis, clock, held, length);
-    let answer = holding.answer;
-    let opened = holding.opened;
-    let summary = holding.summary;
-    match answer {
-        Answer::Refused(number, place) => refused(number, place, pool),
-        Answer::Good => {
-            if !present_fits(opened.clock, pool) {
-                return refused(BAD_POOL, BlockCount(0), pool);
-            }
-            join(opened, summary, pool, order, depot)
-        }
+    let (opened, summary) = chain::hold(genesis, clock, held, length)?;
+    if !present_fits(opened.clock, pool) {
+        return Err(Refusal::BadPool.into());
     }
-}
-
-fn refused(number: u32, place: BlockCount, pool: Pool) -> Pooled
-    ensures { (told_pooled result ≡ refuses number place.0) × (result.pool ≡ pool) }
-{
-    Pooled {
-        answer: Answer::Refused(number, place),
-        pool,
-    }
+    Ok(join(&opened, &summary, pool, order, depot)?)
 }
 
 // An order behind the entries that are present: 5, 14, 20. A depot with room in its share has room in the pool: 13 can't occur.
-fn join(opened: Opened, held: Summary, pool: Pool, order: Order, depot: u32) -> Pooled
-    requires { spec.present_fits opened.clock.0 pool ≡ true }
-    ensures result_value { told_pooled result ≡ spec.joined opened held (spec.counting held pool) (spec.entries_in pool) order depot }
-    ensures pool_value { result.pool ≡ pool_or pool (told_pooled result) }
+#[tactic(auto, using(crate::proofs::Joining::entries_of, crate::proofs::Joining::room_for_one, crate::proofs::Joining::joins))]
+fn join(
+    opened: &Opened,
+    held: &Summary,
+    pool: &Pool,
+    order: Order,
+    depot: u32,
+) -> Result<Pool, Refusal>
+    requires { spec.present_fits opened.now.clock.0 pool.now ≡ true }
+    ensures { told result ≡ spec.joined opened.now held.now (spec.counting held.now pool.now) (spec.entries_in pool.now) order depot }
 {
-    if !order::in_range(order) {
-        return refused(OUT_OF_RANGE, BlockCount(0), pool);
+    if !order::in_range(order) || DEPOTS <= depot {
+        return Err(Refusal::OutOfRange);
     }
-    if DEPOTS <= depot {
-        return refused(OUT_OF_RANGE, BlockCount(0), pool);
+    let taken = take(&counting(held, pool), held.whole.releases, ROOM);
+    if !order::valid(&taken.releases, order) {
+        return Err(Refusal::BadOffer);
     }
-    let whole = held.whole;
-    let before = whole.releases;
-    let kept = counting(held, pool);
-    let taken = take(kept, before, ROOM);
-    let releases = taken.releases;
-    if !order::valid(&releases, order) {
-        return refused(BAD_OFFER, BlockCount(0), pool);
+    if DEPOT_ROOM <= of_depot(pool.present(), depot) {
+        return Err(Refusal::DepotFull);
     }
-    if DEPOT_ROOM <= of_depot(pool, depot) {
-        return refused(DEPOT_FULL, BlockCount(0), pool);
-    }
-    let slot = opened.clock;
-    let entry = Entry { order, slot, depot };
-    let joined = with_last(present(pool), entry);
-    Pooled {
-        answer: Answer::Good,
-        pool: joined,
-    }
-}
-
-// The entries within the count, with zeros behind them.
-fn present(pool: Pool) -> Pool
-    ensures { result ≡ spec.pool_of (spec.entries_in pool) }
-{
-    let most = least(pool.count);
-    let all = pool.entries;
-    let none = none();
-    let mut entries = [none; 64];
-    let mut i = 0;
-    while i < most {
-        let entry = all[i];
-        entries[i] = entry;
-        i += 1;
-    }
-    Pool {
-        count: most as u32,
-        entries,
-    }
-}
-
-fn with_last(pool: Pool, entry: Entry) -> Pool
-    requires { pool.count < spec.room }
-    ensures { result ≡ record { count = pool.count + 1; entries = set pool.entries pool.count entry } }
-{
-    let count = pool.count as usize;
-    let mut entries = pool.entries;
-    entries[count] = entry;
-    Pool {
-        count: pool.count + 1,
-        entries,
-    }
+    let mut joined = Pool::of(pool.present());
+    joined.push(Entry {
+        order,
+        slot: opened.clock,
+        depot,
+    });
+    Ok(joined)
 }

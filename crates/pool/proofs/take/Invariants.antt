@@ -1,11 +1,9 @@
 -- `pool::take` meets its contract.
 -- Assumes nothing.
-use Prim.Native.Nat.{◌-◌}
-use Rattle.pool.proofs.Pools.{Took}
+use Rattle.std.proofs.Common.{◌≡◌, take}
+use Rattle.pool.specs.Pool.{orders_of, taking}
+use Rattle.pool.specs.Answers.{taken_of}
 use Rattle.pool.proofs.take.Given as goal
 
-abbrev pub invariant-loop-i : goal.invariant-loop-i
-invariant-loop-i l = Took l.limit l.initial.releases l.entries l.most l.releases l.orders l.count l.i
-
-abbrev pub decreases-loop-i : goal.decreases-loop-i
-decreases-loop-i l = l.most - l.i
+abbrev pub invariant-loop-entry : goal.invariant-loop-entry
+invariant-loop-entry l = l.taken ≡ taken_of (taking l.limit l.fn.releases (orders_of (take l.entry-index l.entry-items)))
