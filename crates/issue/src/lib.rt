@@ -24,7 +24,8 @@ fn may_issue(opened: &Opened, controller: u32) -> bool
     ensures { result ≡ spec.may_issue opened.now controller }
 {
     let table = opened.table;
-    within(1, controller as Number, table.n as Number) && genesis::turn(table, opened.clock) == controller
+    within(1, controller as Number, table.n as Number)
+        && genesis::turn(table, opened.clock) == controller
 }
 
 // The first eight of the orders that were taken.
@@ -39,7 +40,11 @@ fn next_front(opened: &Opened, held: &Summary, pool: &Pool, slot_signature: [u8;
     ensures { result ≡ spec.next_front opened.now held.now pool.now slot_signature }
 {
     let link = held.whole.link;
-    let Taken { count, orders, .. } = pool::take(&pool::counting(held, pool), held.whole.releases, ORDERS);
+    let Taken { count, orders, .. } = pool::take(
+        &pool::counting(held, pool),
+        held.whole.releases,
+        ORDERS,
+    );
     let list = first_eight(&orders);
     Front {
         link,
@@ -50,6 +55,7 @@ fn next_front(opened: &Opened, held: &Summary, pool: &Pool, slot_signature: [u8;
 }
 
 // The front of the next block: 1, 2, 17, 18, 12, 6.
+#[tactic(auto, unfolding(crate::specs::Issue::front))]
 fn front(
     genesis: &[u8],
     clock: Slot,
@@ -88,6 +94,7 @@ fn behind(
 }
 
 // Writes the next block without its last 64 bytes, and answers how many bytes those are.
+#[tactic(auto, using(crate::proofs::Fronts::front_fits_law))]
 pub fn draft(
     genesis: &[u8],
     clock: Slot,
@@ -105,7 +112,15 @@ pub fn draft(
         (spec.front genesis.now clock.0 held.now length pool.now controller slot_signature)
         out.old 0 }
 {
-    let front = front(genesis, clock, held, length, pool, controller, slot_signature)?;
+    let front = front(
+        genesis,
+        clock,
+        held,
+        length,
+        pool,
+        controller,
+        slot_signature,
+    )?;
     Ok(block::write_front(out, 0, front)?)
 }
 
@@ -127,7 +142,15 @@ pub fn append(
         (spec.front genesis.now clock.0 held.old length pool.now controller slot_signature)
         held.old length }
 {
-    let front = front(genesis, clock, &*held, length, pool, controller, slot_signature)?;
+    let front = front(
+        genesis,
+        clock,
+        &*held,
+        length,
+        pool,
+        controller,
+        slot_signature,
+    )?;
     let block = Block {
         front,
         block_signature,
@@ -136,6 +159,7 @@ pub fn append(
 }
 
 // Writes the text of the next block that a host signs, and answers how many bytes it has.
+#[tactic(auto, using(crate::proofs::Fronts::front_fits_law))]
 pub fn block_text(
     genesis: &[u8],
     clock: Slot,
@@ -153,7 +177,15 @@ pub fn block_text(
         (spec.front genesis.now clock.0 held.now length pool.now controller slot_signature)
         out.old 0 }
 {
-    let front = front(genesis, clock, held, length, pool, controller, slot_signature)?;
+    let front = front(
+        genesis,
+        clock,
+        held,
+        length,
+        pool,
+        controller,
+        slot_signature,
+    )?;
     Ok(text(out, front)?)
 }
 

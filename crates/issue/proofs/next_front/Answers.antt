@@ -18,12 +18,14 @@ use Rattle.issue.proofs.next_front.Goals as goal
 pub returns : goal.returns
 returns c =
     let a = c.args in
-    let l = taken a.held a.pool in
-    let is : c.take-taken.result ≡ taken_of (taking 8 a.held.whole.releases (orders_of (counting a.held a.pool))) =
-    c.take-taken.ensures
-    ∙ ap (λ (p : Pool). taken_of (taking 8 a.held.whole.releases (orders_of (entries_in p)))) c.counting-kept.ensures
-    ∙ ap (λ (e : List Entry). taken_of (taking 8 a.held.whole.releases (orders_of e))) (entries_of (counting a.held a.pool)) in
-    let count : c.take-taken.result.count ≡ length l = ap (λ (r : Taken). r.count) is in
+    let held = a.held.now in
+    let pool = a.pool.now in
+    let l = taken held pool in
+    let is : c.take-count.result ≡ taken_of (taking 8 c.args.held.now.whole.releases (orders_of (counting c.args.held.now c.args.pool.now))) =
+    c.take-count.ensures
+    ∙ ap (λ (p : Pool). taken_of (taking 8 held.whole.releases (orders_of (entries_in p)))) c.counting.ensures
+    ∙ ap (λ (e : List Entry). taken_of (taking 8 held.whole.releases (orders_of e))) (entries_of (counting held pool)) in
+    let count : c.take-count.result.count ≡ length l = ap (λ (r : Taken). r.count) is in
     let list : c.first_eight-list.result ≡ tailed 8 no_order l =
-    c.first_eight-list.ensures ∙ ap (λ (r : Taken). take 8 r.orders) is ∙ eight_of no_order l (taken_fine a.opened a.held a.pool).few in
-    λ i. record { link = a.held.whole.link; orders = record { count = count i; list = list i }; slot = a.opened.clock; slot_signature = a.signature }
+    c.first_eight-list.ensures ∙ ap (λ (r : Taken). take 8 r.orders) is ∙ eight_of no_order l (taken_fine a.opened.now held pool).few in
+    λ i. record { link = held.whole.link; orders = record { count = count i; list = list i }; slot = a.opened.now.clock; slot_signature = a.slot_signature }

@@ -1,26 +1,18 @@
--- `issue::text` meets its contract.
+-- `issue::text` meets its contract: the letters are put in front of what was written behind the room for them.
 -- Assumes nothing.
 use Prim.Native.Nat.{ℕ}
-use mathlib.Core.Path.{◌≡◌, refl, sym, ap, ◌∙◌}
+use mathlib.Core.Path.{◌≡◌, sym, ap, ◌∙◌}
 use mathlib.Core.List.{List, [], ◌∷◌}
-use Rattle.laws.specs.Placed.{placed, placing}
-use Rattle.block.specs.Blocks.{told_next, front_of}
-use Rattle.issue.proofs.Texts.{text_placed, text_written}
+use Rattle.laws.specs.Placed.{placing}
+use Rattle.block.specs.Blocks.{front_of}
+use Rattle.issue.proofs.Texts.{text_written}
 use Rattle.issue.proofs.text.Goals as goal
 
-abbrev letters : List ℕ
-letters = 98 ∷ 108 ∷ 111 ∷ 99 ∷ 107 ∷ []
-
-pub returns-in-Next : goal.returns-in-Next
-returns-in-Next c =
-    let out = c.args.out.now in
+pub returns-clause-out : goal.returns-clause-out
+returns-clause-out c =
+    let letters = 98 ∷ 108 ∷ 111 ∷ 99 ∷ 107 ∷ [] in
     let bytes = front_of c.args.front in
-    let writes = c.write_front.ensures in
-    let put_at : told_next c.write_front.result ≡ placed out 5 bytes = writes.answer ∙ rw c.requires in
-    let later : c.write_front.new.out ≡ placing out 5 bytes = writes.buffer ∙ rw c.requires in
-    let told = sym (rw c.in-Next.is at put_at) in
-    record {
-      result_value = sym told ∙ text_placed out letters bytes;
-      length_value = refl;
-      out_after = c.put.ensures.buffer ∙ ap (λ (l : List ℕ). placing l 0 letters) later ∙ text_written out letters bytes _ told;
-    }
+    let later : c.write_front.new.out ≡ placing c.args.out.now 5 (front_of c.args.front) = c.in_ok-end.ensures.buffer ∙ rw c.requires in
+    c.put.ensures.buffer
+    ∙ ap (λ (l : List ℕ). placing l 0 letters) later
+    ∙ text_written c.args.out.now letters bytes _ (sym (c.in_ok-end.ensures.answer ∙ rw c.requires))
