@@ -9,8 +9,6 @@ mod numbers;
 mod pools;
 mod tables;
 
-use order::BlockCount;
-
 pub use blocks::{
     BlockAnswer, StepAnswer, ledger_read_block, ledger_slot_text, ledger_walk_step,
     ledger_write_block,
@@ -23,6 +21,7 @@ pub use manifests::{ManifestAnswer, ledger_check_manifest};
 pub use numbers::{
     DigestAnswer, NumberAnswer, WriteAnswer, ledger_digest, ledger_read_number, ledger_write_number,
 };
+use order::BlockCount;
 pub use pools::{
     IssueAnswer, PoolAnswer, Signature, ledger_add_order, ledger_append, ledger_block_text,
     ledger_draft, ledger_drop_entries,

@@ -59,7 +59,10 @@ pub extern "C" fn ledger_add_order(
 ) -> PoolAnswer
     ensures { result ≡ pool_answer pool (added genesis.now clock.0 held.now length pool order depot) }
 {
-    pooled(pool::add(genesis, clock, held, length, &pool, order, depot), pool)
+    pooled(
+        pool::add(genesis, clock, held, length, &pool, order, depot),
+        pool,
+    )
 }
 
 #[unsafe(no_mangle)]
