@@ -307,7 +307,7 @@ check_answers_once κs a x y s t p q = placed_faithful x y (p ∙ sym q)
 pub judge_answers_once : OneAnswer 4 adopt-judge-kinds.ps adopt-judge-kinds.r adopt-judge.Post
 judge_answers_once κs a x y s t p q = placed_faithful x y (p ∙ sym q)
 
-pub choose_answers_once : OneAnswer 5 adopt-choose-kinds.ps adopt-choose-kinds.r adopt-choose.Post
+pub choose_answers_once : OneAnswer 3 adopt-choose-kinds.ps adopt-choose-kinds.r adopt-choose.Post
 choose_answers_once κs a x y s t p q = paired (p.0 ∙ sym q.0) (placed_faithful x.1 y.1 (p.1 ∙ sym q.1))
 
 pub adopt_answers_once : OneAnswer 4 adopt-kinds.ps adopt-kinds.r adopt.Post
@@ -317,38 +317,38 @@ pub adopt_leaves_the_held_buffer_once : OneLater 4 adopt-kinds.ps adopt-kinds.r 
 adopt_leaves_the_held_buffer_once κs a x y s t p q = p.1 ∙ sym q.1
 
 -- ---- pool
-pub pool_fits_answers_once : OneAnswer 0 pool-fits-kinds.ps pool-fits-kinds.r pool-fits.Post
+pub pool_fits_answers_once : OneAnswer 3 pool-fits-kinds.ps pool-fits-kinds.r pool-fits.Post
 pool_fits_answers_once κs a x y s t p q = p ∙ sym q
 
-pub counting_answers_once : OneAnswer 0 pool-counting-kinds.ps pool-counting-kinds.r pool-counting.Post
+pub counting_answers_once : OneAnswer 2 pool-counting-kinds.ps pool-counting-kinds.r pool-counting.Post
 counting_answers_once κs a x y s t p q = p ∙ sym q
 
-pub take_answers_once : OneAnswer 0 pool-take-kinds.ps pool-take-kinds.r pool-take.Post
+pub take_answers_once : OneAnswer 1 pool-take-kinds.ps pool-take-kinds.r pool-take.Post
 take_answers_once κs a x y s t p q = p ∙ sym q
 
-pub drop_answers_once : OneAnswer 2 pool-drop-kinds.ps pool-drop-kinds.r pool-drop.Post
+pub drop_answers_once : OneAnswer 3 pool-drop-kinds.ps pool-drop-kinds.r pool-drop.Post
 drop_answers_once κs a x y s t p q = placed_faithful x y (p ∙ sym q)
 
-pub add_answers_once : OneAnswer 2 pool-add-kinds.ps pool-add-kinds.r pool-add.Post
+pub add_answers_once : OneAnswer 3 pool-add-kinds.ps pool-add-kinds.r pool-add.Post
 add_answers_once κs a x y s t p q = placed_faithful x y (p ∙ sym q)
 
 -- ---- issue
-pub draft_answers_once : OneAnswer 3 issue-draft-kinds.ps issue-draft-kinds.r issue-draft.Post
+pub draft_answers_once : OneAnswer 4 issue-draft-kinds.ps issue-draft-kinds.r issue-draft.Post
 draft_answers_once κs a x y s t p q = placed_faithful x y (p.0 ∙ sym q.0)
 
-pub draft_leaves_its_buffer_once : OneLater 3 issue-draft-kinds.ps issue-draft-kinds.r issue-draft.Post (λ κs s. s.1.1.1.1.1.1.1.0.now)
+pub draft_leaves_its_buffer_once : OneLater 4 issue-draft-kinds.ps issue-draft-kinds.r issue-draft.Post (λ κs s. s.1.1.1.1.1.1.1.0.now)
 draft_leaves_its_buffer_once κs a x y s t p q = p.1 ∙ sym q.1
 
-pub block_text_answers_once : OneAnswer 3 issue-block-text-kinds.ps issue-block-text-kinds.r issue-block-text.Post
+pub block_text_answers_once : OneAnswer 4 issue-block-text-kinds.ps issue-block-text-kinds.r issue-block-text.Post
 block_text_answers_once κs a x y s t p q = placed_faithful x y (p.0 ∙ sym q.0)
 
-pub block_text_leaves_its_buffer_once : OneLater 3 issue-block-text-kinds.ps issue-block-text-kinds.r issue-block-text.Post (λ κs s. s.1.1.1.1.1.1.1.0.now)
+pub block_text_leaves_its_buffer_once : OneLater 4 issue-block-text-kinds.ps issue-block-text-kinds.r issue-block-text.Post (λ κs s. s.1.1.1.1.1.1.1.0.now)
 block_text_leaves_its_buffer_once κs a x y s t p q = p.1 ∙ sym q.1
 
-pub append_answers_once : OneAnswer 2 issue-append-kinds.ps issue-append-kinds.r issue-append.Post
+pub append_answers_once : OneAnswer 3 issue-append-kinds.ps issue-append-kinds.r issue-append.Post
 append_answers_once κs a x y s t p q = placed_faithful x y (p.0 ∙ sym q.0)
 
-pub append_leaves_the_held_buffer_once : OneLater 2 issue-append-kinds.ps issue-append-kinds.r issue-append.Post (λ κs s. s.1.1.0.now)
+pub append_leaves_the_held_buffer_once : OneLater 3 issue-append-kinds.ps issue-append-kinds.r issue-append.Post (λ κs s. s.1.1.0.now)
 append_leaves_the_held_buffer_once κs a x y s t p q = p.1 ∙ sym q.1
 
 -- ---- report
