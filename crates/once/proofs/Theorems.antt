@@ -149,6 +149,8 @@ use Rattle.walk.proofs.place_after.Kinds as walk-place-after-kinds
 use Rattle.walk.proofs.place_after.Reads as walk-place-after
 use Rattle.walk.proofs.step.Kinds as walk-step-kinds
 use Rattle.walk.proofs.step.Reads as walk-step
+use Rattle.walk.proofs.Walk.next.Kinds as walk-next-kinds
+use Rattle.walk.proofs.Walk.next.Reads as walk-next
 use Rattle.walk.proofs.walked.Kinds as walked-kinds
 use Rattle.walk.proofs.walked.Reads as walked
 use Rattle.walk.proofs.walked_on.Kinds as walked-on-kinds
@@ -280,6 +282,12 @@ step_answers_once κs a x y s t p q = told_faithful x y (p ∙ sym q)
 
 pub place_after_answers_once : OneAnswer 1 walk-place-after-kinds.ps walk-place-after-kinds.r walk-place-after.Post
 place_after_answers_once κs a x y s t p q = p ∙ sym q
+
+pub next_answers_once : OneAnswer 2 walk-next-kinds.ps walk-next-kinds.r walk-next.Post
+next_answers_once κs a x y s t p q = told_faithful x y (p.0 ∙ sym q.0)
+
+pub next_leaves_the_place_once : OneLater 2 walk-next-kinds.ps walk-next-kinds.r walk-next.Post (λ κs s. s.0.now.at)
+next_leaves_the_place_once κs a x y s t p q = p.1.1 ∙ sym q.1.1
 
 pub walked_answers_once : OneAnswer 1 walked-kinds.ps walked-kinds.r walked.Post
 walked_answers_once κs a x y s t p q = told_faithful x y (p ∙ sym q)
