@@ -29,10 +29,14 @@ pub struct Genesis {
 }
 
 #[inline(always)]
+#[tactic(auto, unfolding(crate::specs::Genesis::genesis_of))]
 pub fn read(bytes: &[u8]) -> Result<Genesis, Refusal>
     ensures { told result ≡ spec.genesis_of bytes.now }
 {
-    read_table(bytes).or(Err(Refusal::BadGenesis))
+    match read_table(bytes) {
+        Ok(table) => Ok(table),
+        Err(_) => Err(Refusal::BadGenesis),
+    }
 }
 
 // The table, or the first fault, whatever it is.

@@ -3,7 +3,8 @@ ghost use Rattle.std.specs.Prelude.{◌≡◌};
 ghost use Rattle.pool.specs.Pool.{added, dropped};
 ghost use Rattle.issue.specs.Issue as spec;
 ghost use Rattle.chain.specs.Answers.{told};
-ghost use Rattle.ledger.specs.Answers.{pool_answer, issue_answer};
+ghost use Rattle.laws.specs.Told.{number_of};
+ghost use Rattle.ledger.specs.Answers.{block_place, pool_answer, issue_answer};
 
 use crate::NOWHERE;
 use chain::Refused;
@@ -44,7 +45,13 @@ pub extern "C" fn ledger_drop_entries(
 ) -> PoolAnswer
     ensures { result ≡ pool_answer pool (dropped genesis.now clock.0 held.now length pool) }
 {
-    pooled(pool::drop(genesis, clock, held, length, &pool), pool)
+    let mut pool = pool;
+    let (refusal, place) = refused(pool::drop(genesis, clock, held, length, &mut pool));
+    PoolAnswer {
+        refusal,
+        place,
+        pool,
+    }
 }
 
 #[unsafe(no_mangle)]
@@ -59,10 +66,15 @@ pub extern "C" fn ledger_add_order(
 ) -> PoolAnswer
     ensures { result ≡ pool_answer pool (added genesis.now clock.0 held.now length pool order depot) }
 {
-    pooled(
-        pool::add(genesis, clock, held, length, &pool, order, depot),
+    let mut pool = pool;
+    let (refusal, place) = refused(pool::add(
+        genesis, clock, held, length, &mut pool, order, depot,
+    ));
+    PoolAnswer {
+        refusal,
+        place,
         pool,
-    )
+    }
 }
 
 #[unsafe(no_mangle)]
@@ -158,21 +170,13 @@ pub extern "C" fn ledger_append(
     issued_or(issued, length)
 }
 
-// The pool as it then is, or as it was before.
-fn pooled(answer: Result<Pool, Refused>, before: Pool) -> PoolAnswer
-    ensures { result ≡ pool_answer before (told answer) }
+// The refusal's number, 0 where there is none, and its place.
+fn refused(answer: Result<(), Refused>) -> (u32, BlockCount)
+    ensures { (result.0 ≡ number_of (told answer)) × (result.1 ≡ block_place (told answer)) }
 {
     match answer {
-        Ok(pool) => PoolAnswer {
-            refusal: 0,
-            place: NOWHERE,
-            pool,
-        },
-        Err(refused) => PoolAnswer {
-            refusal: refused.refusal.number(),
-            place: refused.place,
-            pool: before,
-        },
+        Ok(()) => (0, NOWHERE),
+        Err(refused) => (refused.refusal.number(), refused.place),
     }
 }
 

@@ -5,9 +5,10 @@
 ghost use Rattle.std.specs.Prelude.{◌≡◌, true, ◌<◌, ◌≤◌, leb, get_or, length};
 ghost use Rattle.std.specs.List.{list_all};
 ghost use Rattle.refusal.specs.Answers.{told};
+ghost use Rattle.laws.specs.Told.{given_as};
 ghost use Rattle.chain.specs.Answers as answer;
 ghost use Rattle.pool.specs.Pool as spec;
-ghost use Rattle.pool.specs.Answers.{taken_of};
+ghost use Rattle.pool.specs.Answers.{pool_or, taken_of};
 
 use chain::{Opened, Refused, Summary};
 use order::{Order, Release, Slot};
@@ -187,37 +188,34 @@ pub fn take(pool: &Pool, releases: [Release; 64], limit: u32) -> Taken
     taken
 }
 
-// Drops the entries that no longer count: 18 where the pool doesn't fit. What is handed in is only read, so that a refusal leaves it as it came.
-pub fn drop(
-    genesis: &[u8],
-    clock: Slot,
-    held: &[u8],
-    length: usize,
-    pool: &Pool,
-) -> Result<Pool, Refused>
-    ensures { answer.told result ≡ spec.dropped genesis.now clock.0 held.now length pool.now }
+// Drops the entries that no longer count: 18 where the pool doesn't fit. A refusal leaves the pool as it came.
+pub fn drop(genesis: &[u8], clock: Slot, held: &[u8], length: usize, pool: &mut Pool) -> Result<(), Refused>
+    ensures answer { answer.told result ≡ given_as (λ _. tt) (spec.dropped genesis.now clock.0 held.now length pool.old) }
+    ensures pool { pool.new ≡ pool_or pool.old (spec.dropped genesis.now clock.0 held.now length pool.old) }
 {
     let (opened, summary) = chain::hold(genesis, clock, held, length)?;
-    if !fits(&opened, &summary, pool) {
+    if !fits(&opened, &summary, &*pool) {
         return Err(Refusal::BadPool.into());
     }
-    Ok(counting(&summary, pool))
+    *pool = counting(&summary, &*pool);
+    Ok(())
 }
 
-// Adds an order to the pool, and drops nothing. What is handed in is only read, as by dropping.
+// Adds an order to the pool, and drops nothing. A refusal leaves the pool as it came.
 pub fn add(
     genesis: &[u8],
     clock: Slot,
     held: &[u8],
     length: usize,
-    pool: &Pool,
+    pool: &mut Pool,
     order: Order,
     depot: u32,
-) -> Result<Pool, Refused>
-    ensures { answer.told result ≡ spec.added genesis.now clock.0 held.now length pool.now order depot }
+) -> Result<(), Refused>
+    ensures answer { answer.told result ≡ given_as (λ _. tt) (spec.added genesis.now clock.0 held.now length pool.old order depot) }
+    ensures pool { pool.new ≡ pool_or pool.old (spec.added genesis.now clock.0 held.now length pool.old order depot) }
 {
     let (opened, summary) = chain::hold(genesis, clock, held, length)?;
-    if !present_fits(opened.clock, pool) {
+    if !present_fits(opened.clock, &*pool) {
         return Err(Refusal::BadPool.into());
     }
     Ok(join(&opened, &summary, pool, order, depot)?)
@@ -225,31 +223,26 @@ pub fn add(
 
 // An order behind the entries that are present: 5, 14, 20. A depot with room in its share has room in the pool: 13 can't occur.
 #[tactic(auto, using(crate::proofs::Joining::entries_of, crate::proofs::Joining::room_for_one, crate::proofs::Joining::joins))]
-fn join(
-    opened: &Opened,
-    held: &Summary,
-    pool: &Pool,
-    order: Order,
-    depot: u32,
-) -> Result<Pool, Refusal>
-    requires { spec.present_fits opened.now.clock.0 pool.now ≡ true }
-    ensures { told result ≡ spec.joined opened.now held.now (spec.counting held.now pool.now) (spec.entries_in pool.now) order depot }
+fn join(opened: &Opened, held: &Summary, pool: &mut Pool, order: Order, depot: u32) -> Result<(), Refusal>
+    requires { spec.present_fits opened.now.clock.0 pool.old ≡ true }
+    ensures answer { told result ≡ given_as (λ _. tt) (spec.joined opened.now held.now (spec.counting held.now pool.old) (spec.entries_in pool.old) order depot) }
+    ensures pool { pool.new ≡ pool_or pool.old (spec.joined opened.now held.now (spec.counting held.now pool.old) (spec.entries_in pool.old) order depot) }
 {
     if !order::in_range(order) || DEPOTS <= depot {
         return Err(Refusal::OutOfRange);
     }
-    let taken = take(&counting(held, pool), held.whole.releases, ROOM);
+    let taken = take(&counting(held, &*pool), held.whole.releases, ROOM);
     if !order::valid(&taken.releases, order) {
         return Err(Refusal::BadOffer);
     }
     if DEPOT_ROOM <= of_depot(pool.present(), depot) {
         return Err(Refusal::DepotFull);
     }
-    let mut joined = Pool::of(pool.present());
-    joined.push(Entry {
+    *pool = Pool::of(pool.present());
+    pool.push(Entry {
         order,
         slot: opened.clock,
         depot,
     });
-    Ok(joined)
+    Ok(())
 }
