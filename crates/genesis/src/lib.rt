@@ -39,13 +39,30 @@ pub fn read(bytes: &[u8]) -> Result<Genesis, Refusal>
     }
 }
 
-// The table, or the first fault, whatever it is.
+// The table, if its numbers keep the rules and its keys end where they must, or the first fault, whatever it is. The releases are read here, so that
+// no copy of them lies on the stack.
 fn read_table(bytes: &[u8]) -> Result<Genesis, Refusal>
     ensures { told result ≡ spec.table_in bytes.now }
 {
     let (head, at) = read_head(bytes)?;
-    let (releases, keys) = read_releases(bytes, at)?;
-    checked(bytes, head, releases, keys)
+    let mut releases = [0; 64];
+    let mut keys_at = at;
+    for release in &mut releases {
+        (*release, keys_at) = number::read(bytes, keys_at)?;
+    }
+    if !rules(head) {
+        return Err(Refusal::BadGenesis);
+    }
+    if !keys_end(bytes, keys_at, head.n as u32) {
+        return Err(Refusal::BadGenesis);
+    }
+    Ok(Genesis {
+        n: head.n as u32,
+        t: head.t as u32,
+        u: head.u as u32,
+        releases,
+        keys_at,
+    })
 }
 
 // What stands before the releases, as it was read: no rule need hold of it.
@@ -63,39 +80,6 @@ fn read_head(bytes: &[u8]) -> Result<(Head, usize), Refusal>
     let (t, at) = number::read(bytes, at)?;
     let (u, at) = number::read(bytes, at)?;
     Ok((Head { n, t, u }, at))
-}
-
-// The releases, and the place of the keys behind them.
-fn read_releases(bytes: &[u8], at: usize) -> Result<([Release; 64], usize), Refusal>
-    ensures { told_found result ≡ repeated number_at 64 bytes.now at }
-{
-    let mut releases = [0; 64];
-    let mut place = at;
-    for release in &mut releases {
-        (*release, place) = number::read(bytes, place)?;
-    }
-    Ok((releases, place))
-}
-
-// The table, if its numbers keep the rules and its keys end where they must.
-fn checked(
-    bytes: &[u8],
-    head: Head,
-    releases: [Release; 64],
-    keys: usize,
-) -> Result<Genesis, Refusal>
-    ensures { told result ≡ spec.table_at bytes.now head (record { value = releases; next = keys }) }
-{
-    if !rules(head) || !keys_end(bytes, keys, head.n as u32) {
-        return Err(Refusal::BadGenesis);
-    }
-    Ok(Genesis {
-        n: head.n as u32,
-        t: head.t as u32,
-        u: head.u as u32,
-        releases,
-        keys_at: keys,
-    })
 }
 
 fn rules(head: Head) -> bool

@@ -29,17 +29,14 @@ pub struct KeyAnswer {
 pub extern "C" fn ledger_read_genesis(bytes: &[u8]) -> GenesisAnswer
     ensures { result ≡ genesis_answer bytes.now }
 {
-    match genesis::read(bytes) {
-        Ok(table) => GenesisAnswer {
-            refusal: 0,
-            place: NOWHERE,
-            table,
-        },
-        Err(refusal) => GenesisAnswer {
-            refusal: refusal.number(),
-            place: NOWHERE,
-            table: genesis::none(),
-        },
+    let (refusal, table) = match genesis::read(bytes) {
+        Ok(table) => (0, table),
+        Err(refusal) => (refusal.number(), genesis::none()),
+    };
+    GenesisAnswer {
+        refusal,
+        place: NOWHERE,
+        table,
     }
 }
 
