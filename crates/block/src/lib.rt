@@ -21,7 +21,7 @@ pub const LINK_BYTES: usize = 32;
 
 pub const SIGNATURE_BYTES: usize = 64;
 
-// The orders of a block: the first `count` of the list. Those that are read or drafted have zeros behind.
+// The orders of a block: the first `count` of the list. Those that are read or drafted have zeros behind. A count and a list, since it crosses to C.
 #[repr(C)]
 #[derive(Clone, Copy, Debug, Default, PartialEq, Eq)]
 pub struct Orders {

@@ -1,4 +1,5 @@
-// A block's parts, in byte order.
+// A block's parts, in byte order. Each is read at a place and answers the next one, as the calls do: a reader that holds the two would be no plainer
+// where `?` hands on both.
 ghost use Rattle.std.specs.Prelude.{◌≡◌, ◌≤◌};
 ghost use Rattle.laws.specs.Told.{found_as};
 ghost use Rattle.laws.specs.Bytes.{bytes_at};
@@ -42,6 +43,7 @@ pub fn read_number_in(s: &[u8], at: usize, least: u32, most: u32) -> Result<(u32
     if !within(least as Number, value, most as Number) {
         return Err(Refusal::OutOfRange);
     }
+    // no `try_from`: the range was judged, and it would judge it again
     Ok((value as u32, next))
 }
 
@@ -72,8 +74,8 @@ fn read_listed(s: &[u8], at: usize, count: u32) -> Result<(Orders, usize), Refus
 {
     let mut list = [Order::default(); 8];
     let mut place = at;
-    for i in 0..count as usize {
-        (list[i], place) = read_order(s, place)?;
+    for order in &mut list[..count as usize] {
+        (*order, place) = read_order(s, place)?;
     }
     Ok((Orders { count, list }, place))
 }

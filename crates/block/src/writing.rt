@@ -67,7 +67,7 @@ pub fn slot_text(out: &mut [u8], slot: Slot) -> Result<usize, Refusal>
     Ok(put_number(out, end, number))
 }
 
-// How many bytes a block with these orders and this slot takes: 0 if there is no such block.
+// How many bytes a block with these orders and this slot takes: 0 if there is no such block. No `Option`: 0 is what the call has promised.
 pub fn length(orders: Orders, slot: Slot) -> usize
     ensures { result ≡ pick (in_range orders slot.0) (block_length (unlisted orders) slot.0) 0 }
 {
@@ -125,6 +125,8 @@ fn order_length(order: Order) -> usize
     number::length(order.display as Number) + releases
 }
 
+// These write where there is room, at a place, and answer the next one. No writer that holds buffer and place: the calls have the two, and `let at`
+// says as much in a line. `Room` is of the bytes to come, so no type can keep it.
 fn put_front(out: &mut [u8], at: usize, front: &Front) -> usize
     requires { (front_fits front.now ≡ true) × Room out.old at (front_of front.now) }
     ensures { Wrote out.old at (front_of front.now) result out.new }

@@ -42,7 +42,7 @@ fn admit(way: Way<'_>, clock: Slot, count: BlockCount, stamp: Slot) -> Result<()
     }
 }
 
-// Whether there is a verdict at a place, and it is 3.
+// Whether there is a verdict at a place, and it is 3. Verdicts are bytes beside the chain, since a host hands them in as C has them.
 fn good_verdict(verdicts: &[u8], at: usize) -> bool
     ensures { result ≡ eqb (get_or verdicts.now at 0) 3 }
 {

@@ -17,7 +17,7 @@ use refusal::Refusal;
 
 pub const KEY_BYTES: usize = 32;
 
-// The table. `keys_at` is the place of the first key in its bytes.
+// The table. `keys_at` is the place of the first key in its bytes: a slice of them can't cross to C.
 #[repr(C)]
 #[derive(Clone, Copy, Debug, PartialEq, Eq)]
 pub struct Genesis {
@@ -115,7 +115,7 @@ pub fn none() -> Genesis
     }
 }
 
-// Whose turn a slot is: a controller, counted from 1, or 0 where the table has none.
+// Whose turn a slot is: a controller, counted from 1, or 0 where the table has none. No `Option`: a host in C gets this number.
 pub fn turn(table: Genesis, slot: Slot) -> u32
     ensures { result ≡ spec.turn table slot.0 }
 {
@@ -132,7 +132,7 @@ pub fn clock_fits(table: Genesis, clock: Slot) -> bool
     in_run(clock, Slot(LAST_SLOT))
 }
 
-// A block is settled when it lies more than so many slots back. 0 for numbers that no genesis gives.
+// A block is settled when it lies more than so many slots back. 0 for numbers that no genesis gives. No `Option`: a host in C gets this number.
 pub fn depth(table: Genesis) -> u64
     ensures { result ≡ spec.depth table }
 {

@@ -93,6 +93,8 @@ fn behind(
     Ok(next_front(opened, held, pool, slot_signature))
 }
 
+// Draft, append and block text stay three calls, as 01 and the hosts have them: they share `front`, and differ in what they write.
+
 // Writes the next block without its last 64 bytes, and answers how many bytes those are.
 #[tactic(auto, using(crate::proofs::Fronts::front_fits_law))]
 pub fn draft(

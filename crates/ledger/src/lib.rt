@@ -1,5 +1,6 @@
 // The calls of the ledger for hosts in C and Rust. Each says what the call that it wraps says: first the refusal's number, 0 where there is
-// none, and its place.
+// none, and its place. The C interface needs these forms: an answer is a struct with a number and the values beside it, since neither a `Result` nor
+// a reference can cross, and a held chain is a buffer with a length.
 #![tactic(auto)]
 
 mod blocks;

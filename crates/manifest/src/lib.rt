@@ -25,7 +25,7 @@ pub fn check(image: &[u8], manifest: &[u8], key: &[u8], settled: Release) -> Res
     matched(image, manifest, at, release, settled)
 }
 
-// What stands before the signature: the release, and the place of the digest.
+// What stands before the signature: the release, and the place of the digest. Its place, and not its bytes: the signature is over what ends there.
 fn read_head(manifest: &[u8]) -> Result<(Release, usize), Refusal>
     ensures { told_head manifest.now result ≡ spec.head_at manifest.now 0 }
 {

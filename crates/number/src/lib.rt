@@ -88,7 +88,7 @@ pub fn write(out: &mut [u8], at: usize, value: Number) -> Result<usize, Refusal>
     Ok(at + size)
 }
 
-// Writes a number for which there is room.
+// Writes a number for which there is room. The loop ends by what is left of the number, so there is nothing to count with `for`.
 fn put(out: &mut [u8], at: usize, value: Number)
     requires { (value ≤ largest) × (at + length (written value) ≤ length out.old) }
     ensures { out.new ≡ sets out.old at (written value) }

@@ -19,7 +19,7 @@ pub struct BlockCount(pub u32);
 
 // Outside this crate no slot and no count is unwrapped to be compared, so that a stamp where a count is meant is an error of types.
 
-// Whether a chain of `count` blocks has more than one of `than`.
+// Whether a chain of `count` blocks has more than one of `than`. This and `earlier` stay two functions: 01 keeps a count and a stamp apart.
 pub fn more(count: BlockCount, than: BlockCount) -> bool
     ensures { result ≡ ltb than.0 count.0 }
 {

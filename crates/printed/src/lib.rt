@@ -87,7 +87,8 @@ fn stated(genesis: &[u8], clock: Number, held: &[u8]) -> Result<Asked, Refused>
     Ok(Asked { clock, report })
 }
 
-// A number as a slot. One above the last is no slot, and 0 is none either.
+// A number as a slot. One above the last is no slot, and 0 is none either. With an `Option` the refusal of a bad now would stand once more here,
+// behind that of a bad genesis.
 fn slot_of(clock: Number) -> Slot
     ensures { result.0 ≡ pick (leb clock 256) clock 0 }
 {

@@ -58,7 +58,7 @@ impl<'a> Walk<'a> {
     }
 }
 
-// What a walk that begins at a place meets first.
+// What a walk that begins at a place meets first. This and `walked_on` stay two: the theorem on no second answer is on each.
 pub fn walked(chain: &[u8], at: usize) -> Result<Option<Block>, Refusal>
     ensures { told result ≡ given_as block_of (step_at chain.now at) }
 {
