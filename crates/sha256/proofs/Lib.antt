@@ -1,5 +1,5 @@
-pub mod Bytes
 pub mod Digits
+pub mod Made
 pub mod Padded
 pub mod Schedule
 pub mod Working

@@ -1,12 +1,13 @@
 -- The padded message by its bytes' places.
 -- Assumes nothing.
-use Rattle.std.proofs.Common.{◌≡◌, ℕ, suc, ◌+◌, ◌-◌, ◌*◌, ◌/◌, ◌%◌, ◌^◌, ◌<◌, ◌≤◌, leb, List, ◌∷◌, ◌++◌, length, get_or, replicate, sym, ap, ◌∙◌, div-one, arith, lit<, length-append, get_or-append-add, le-leb}
+use Rattle.std.proofs.Common.{◌≡◌, ℕ, suc, ◌+◌, ◌-◌, ◌*◌, ◌/◌, ◌%◌, ◌^◌, ◌<◌, ◌≤◌, leb, List, ◌∷◌, ◌++◌, length, take, drop, get_or, replicate, sym, ap, ◌∙◌, div-one, arith, lit<, length-append, get_or-append-add, le-leb}
 use native.Mathlib.Nat.{pow-le-pow_right, div-eq_of_lt}
 use lib.ListN.{length-replicate, get_or-replicate, get_or-append}
 use lib.Seq.{get_or-append_seam}
 use borrow.Author.Tests.{lt-leb}
 use Rattle.laws.specs.Pick.{pick}
 use Rattle.laws.specs.Tabulate.{tabulate}
+use Rattle.laws.proofs.Bytes.{part_length, part_byte}
 use Rattle.laws.proofs.Cases.{lt_cases}
 use Rattle.laws.proofs.Tabulate.{length_tabulate, get_d_tabulate, tabulate_same}
 use Rattle.sha256.specs.Sha256.{longest, zeros, length_byte, padded, word_at, block_at}
@@ -143,3 +144,41 @@ module _ (m : List ℕ) (i : ℕ) (small : length m ≤ longest) (late : length 
       three_bytes (8 * size) (omega arith)
       ∙ word_is m i (at i 4 late end (lit< tt)) (at (i + 1) 3 (omega arith) (omega arith) (lit< tt))
       (at (i + 2) 2 (omega arith) (omega arith) (lit< tt)) (at (i + 3) 1 (omega arith) (omega arith) (lit< tt))
+
+-- the word in which the message ends, by what is left of the message there
+module _ (m : List ℕ) where
+  abbrev edge : ℕ
+  edge = length m / 4 * 4
+
+  abbrev left : List ℕ
+  left = take (length m - edge) (drop edge m)
+
+  -- byte k of it, which stands at i
+  pub record EdgeByte (k i : ℕ) : Type 0 where
+    pub given : k < length left → get_or (padded m) i 0 ≡ get_or left k 0
+    pub end : k ≡ length left → get_or (padded m) i 0 ≡ 0x80
+    pub behind : length left < k → get_or (padded m) i 0 ≡ 0
+
+  pub record Edge : Type 0 where
+    pub byte_0 : EdgeByte 0 edge
+    pub byte_1 : EdgeByte 1 (edge + 1)
+    pub byte_2 : EdgeByte 2 (edge + 2)
+    pub byte_3 : EdgeByte 3 (edge + 3)
+
+  module _ (small : length m ≤ longest) where
+    byte : (k i : ℕ) → k < 4 → i ≡ edge + k → EdgeByte k i
+    byte k i within is =
+        let size = part_length m edge (length m - edge) (omega arith) in record {
+          given = λ inside.
+              byte_of_message m i (omega arith) ∙ ap (λ (n : ℕ). get_or m n 0) is ∙ sym (part_byte m edge (length m - edge) k (omega arith));
+          end = λ whole. byte_end m i (omega arith);
+          behind = λ less. byte_zero m i small (omega arith) (omega arith);
+        }
+
+    pub edge_bytes : Edge
+    edge_bytes = record {
+      byte_0 = byte 0 edge (omega arith) (omega arith);
+      byte_1 = byte 1 (edge + 1) (omega arith) (omega arith);
+      byte_2 = byte 2 (edge + 2) (omega arith) (omega arith);
+      byte_3 = byte 3 (edge + 3) (omega arith) (omega arith);
+    }

@@ -5,14 +5,15 @@ mod bits;
 mod padding;
 mod rounds;
 
-ghost use Rattle.std.specs.Prelude.{◌≡◌, ℕ, ◌+◌, ◌*◌, ◌/◌, ◌<◌, ◌≤◌, List, length, slice_index};
+ghost use Rattle.std.specs.Prelude.{◌≡◌, ◌/◌, ◌≤◌, length};
 ghost use Rattle.laws.specs.Bytes.{part};
 ghost use Rattle.laws.specs.Every.{same};
-ghost use Rattle.laws.specs.Tabulate.{tabulate, Filled};
+ghost use Rattle.laws.specs.Tabulate.{tabulate};
 ghost use Rattle.refusal.specs.Answers.{told};
 ghost use Rattle.sha256.specs.Sha256.{longest, padded, hashed, digest_byte, digest_of};
 
 use refusal::Refusal;
+use std::array;
 
 pub const LONGEST: usize = 65536;
 
@@ -30,18 +31,16 @@ pub fn digest(s: &[u8]) -> Result<[u8; 32], Refusal>
     Ok(bytes_of(hash(s)))
 }
 
-// The hash after the last block. The padding takes nine bytes or more: so block n is there if it begins at most eight bytes behind the message.
+// The hash after the last block.
 fn hash(s: &[u8]) -> [u32; 8]
     requires { length s.now ≤ longest }
     ensures { result ≡ hashed (padded s.now) (length (padded s.now) / 64) }
 {
-    let constants = rounds::constants();
     let mut hash = INITIAL;
-    let mut n = 0;
-    while 64 * n <= s.len() + 8 {
-        let next = rounds::compress(hash, padding::block(s, n), &constants);
+    // the padding takes nine bytes or more
+    for n in 0..(s.len() + 8) / 64 + 1 {
+        let next = rounds::compress(hash, padding::block(s, n));
         hash = next;
-        n += 1;
     }
     hash
 }
@@ -49,49 +48,12 @@ fn hash(s: &[u8]) -> [u32; 8]
 fn bytes_of(hash: [u32; 8]) -> [u8; 32]
     ensures { result ≡ tabulate 32 (digest_byte hash) }
 {
-    let mut bytes = [0u8; 32];
-    let mut i = 0;
-    while i < 8 {
-        put_word(&mut bytes, i, hash[i]);
-        i += 1;
-    }
-    bytes
-}
-
-// Word i of a digest, the highest byte first.
-fn put_word(bytes: &mut [u8; 32], i: usize, word: u32)
-    requires { i < 8 }
-    ensures { (hash : List ℕ) → word ≡ slice_index hash i → Filled 32 (digest_byte hash) bytes.old (4 * i) → Filled 32 (digest_byte hash) bytes.new (4 * i + 4) }
-{
-    bytes[4 * i] = (word / 16777216 % 256) as u8;
-    bytes[4 * i + 1] = (word / 65536 % 256) as u8;
-    bytes[4 * i + 2] = (word / 256 % 256) as u8;
-    bytes[4 * i + 3] = (word % 256) as u8;
+    array::from_fn(|i| hash[i / 4].to_be_bytes()[i % 4])
 }
 
 // Whether a digest stands at a place of a slice. It does not where the slice ends before it.
 pub fn stands_at(s: &[u8], at: usize, digest: [u8; 32]) -> bool
     ensures { result ≡ same (part s.now at 32) digest }
 {
-    if s.len() < 32 {
-        return false;
-    }
-    if s.len() - 32 < at {
-        return false;
-    }
-    stands(s, at, digest)
-}
-
-fn stands(s: &[u8], at: usize, digest: [u8; 32]) -> bool
-    requires { at + 32 ≤ length s.now }
-    ensures { result ≡ same (part s.now at 32) digest }
-{
-    let mut i = 0;
-    while i < 32 {
-        if s[at + i] != digest[i] {
-            return false;
-        }
-        i += 1;
-    }
-    true
+    s.get(at..).is_some_and(|rest| rest.starts_with(&digest))
 }

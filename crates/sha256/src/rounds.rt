@@ -5,6 +5,7 @@ ghost use Rattle.sha256.specs.Sha256 as sha;
 ghost use Rattle.sha256.specs.Steps.{Reached, mixed_of, moved_on};
 
 use crate::bits::{big_sigma_0, big_sigma_1, ch, maj, sigma_0, sigma_1, sum};
+use std::array;
 
 const ROUND_CONSTANTS: [u32; 64] = [
     0x428a2f98, 0x71374491, 0xb5c0fbcf, 0xe9b5dba5, 0x3956c25b, 0x59f111f1, 0x923f82a4, 0xab1c5ed5,
@@ -17,11 +18,16 @@ const ROUND_CONSTANTS: [u32; 64] = [
     0x748f82ee, 0x78a5636f, 0x84c87814, 0x8cc70208, 0x90befffa, 0xa4506ceb, 0xbef9a3f7, 0xc67178f2,
 ];
 
-// The table, once for each digest: a constant named in a loop is made anew in each turn.
-pub fn constants() -> [u32; 64]
-    ensures { result ≡ sha.round_constants }
+// The hash after one more block.
+pub fn compress(hash: [u32; 8], block: [u32; 16]) -> [u32; 8]
+    ensures { result ≡ sha.compressed hash block }
 {
-    ROUND_CONSTANTS
+    let s = Words {
+        working: hash,
+        window: block,
+    }
+    .rounds();
+    array::from_fn(|i| sum(hash[i], s[i]))
 }
 
 // The working words, and the window: the sixteen words of the schedule that the next rounds read.
@@ -31,75 +37,63 @@ struct Words {
     window: [u32; 16],
 }
 
-// The hash after one more block.
-pub fn compress(hash: [u32; 8], block: [u32; 16], constants: &[u32; 64]) -> [u32; 8]
-    requires { constants.now ≡ sha.round_constants }
-    ensures { result ≡ sha.compressed hash block }
-{
-    let s = rounds(hash, block, constants);
-    [
-        sum(hash[0], s[0]),
-        sum(hash[1], s[1]),
-        sum(hash[2], s[2]),
-        sum(hash[3], s[3]),
-        sum(hash[4], s[4]),
-        sum(hash[5], s[5]),
-        sum(hash[6], s[6]),
-        sum(hash[7], s[7]),
-    ]
+impl Words {
+    // All rounds of a block, from its hash and its words. Each place in the table is a numeral, so that each constant becomes part of an instruction.
+    // Tried, and slower: a loop over two rounds runs at 0.81 of the speed, one over sixteen at 0.96.
+    fn rounds(self) -> [u32; 8]
+        ensures { result ≡ sha.working (sha.schedule self.window 64) self.working 64 }
+    {
+        self.two_rounds(0)
+            .two_rounds(2)
+            .two_rounds(4)
+            .two_rounds(6)
+            .two_rounds(8)
+            .two_rounds(10)
+            .two_rounds(12)
+            .two_rounds(14)
+            .two_rounds(16)
+            .two_rounds(18)
+            .two_rounds(20)
+            .two_rounds(22)
+            .two_rounds(24)
+            .two_rounds(26)
+            .two_rounds(28)
+            .two_rounds(30)
+            .two_rounds(32)
+            .two_rounds(34)
+            .two_rounds(36)
+            .two_rounds(38)
+            .two_rounds(40)
+            .two_rounds(42)
+            .two_rounds(44)
+            .two_rounds(46)
+            .two_rounds(48)
+            .two_rounds(50)
+            .two_rounds(52)
+            .two_rounds(54)
+            .two_rounds(56)
+            .two_rounds(58)
+            .two_rounds(60)
+            .two_rounds(62)
+            .working
+    }
+
+    // Two rounds from round t on, and the window moved on past their words: short enough that the compiler puts it in at every call.
+    fn two_rounds(self, t: usize) -> Words
+        requires { t ≤ 62 }
+        ensures { (hash block : List ℕ) → Reached hash block t self.working self.window → Reached hash block (suc (suc t)) result.working result.window }
+    {
+        let s = self.working;
+        let w = self.window;
+        let half = round(s, ROUND_CONSTANTS[t], w[0]);
+        Words {
+            working: round(half, ROUND_CONSTANTS[t + 1], w[1]),
+            window: moved_on(w),
+        }
+    }
 }
 
-// Written out, with each place in the table a numeral: so each constant becomes part of an instruction, and the table takes no stack.
-fn rounds(hash: [u32; 8], block: [u32; 16], constants: &[u32; 64]) -> [u32; 8]
-    requires { constants.now ≡ sha.round_constants }
-    ensures { result ≡ sha.working (sha.schedule block 64) hash 64 }
-{
-    let w0 = Words {
-        working: hash,
-        window: block,
-    };
-    let w2 = two_rounds(w0, constants, 0);
-    let w4 = two_rounds(w2, constants, 2);
-    let w6 = two_rounds(w4, constants, 4);
-    let w8 = two_rounds(w6, constants, 6);
-    let w10 = two_rounds(w8, constants, 8);
-    let w12 = two_rounds(w10, constants, 10);
-    let w14 = two_rounds(w12, constants, 12);
-    let w16 = two_rounds(w14, constants, 14);
-    let w18 = two_rounds(w16, constants, 16);
-    let w20 = two_rounds(w18, constants, 18);
-    let w22 = two_rounds(w20, constants, 20);
-    let w24 = two_rounds(w22, constants, 22);
-    let w26 = two_rounds(w24, constants, 24);
-    let w28 = two_rounds(w26, constants, 26);
-    let w30 = two_rounds(w28, constants, 28);
-    let w32 = two_rounds(w30, constants, 30);
-    let w34 = two_rounds(w32, constants, 32);
-    let w36 = two_rounds(w34, constants, 34);
-    let w38 = two_rounds(w36, constants, 36);
-    let w40 = two_rounds(w38, constants, 38);
-    let w42 = two_rounds(w40, constants, 40);
-    let w44 = two_rounds(w42, constants, 42);
-    let w46 = two_rounds(w44, constants, 44);
-    let w48 = two_rounds(w46, constants, 46);
-    last_rounds(w48, constants)
-}
-
-// Two rounds from round t on, and the window moved on past their words: short enough that the compiler puts it in at every call.
-fn two_rounds(words: Words, constants: &[u32; 64], t: usize) -> Words
-    requires { t ≤ 46 }
-    ensures { (hash block : List ℕ) → constants.now ≡ sha.round_constants → Reached hash block t words.working words.window
-        → Reached hash block (suc (suc t)) result.working result.window }
-{
-    let s = words.working;
-    let w = words.window;
-    let window = moved_on(w);
-    let half = round(s, constants[t], w[0]);
-    let working = round(half, constants[t + 1], w[1]);
-    Words { working, window }
-}
-
-// The window without its first two words, and with the next two.
+// The window without its first two words, and with the next two. Tried, and slower: by `array::from_fn` the digest runs at 0.24 of the speed.
 fn moved_on(w: [u32; 16]) -> [u32; 16]
     ensures { result ≡ moved_on w }
 {
@@ -133,51 +127,16 @@ fn mixed(before_16: u32, before_15: u32, before_7: u32, before_2: u32) -> u32
     )
 }
 
-// The last sixteen rounds, whose words are all in the window.
-fn last_rounds(words: Words, constants: &[u32; 64]) -> [u32; 8]
-    ensures { (hash block : List ℕ) → constants.now ≡ sha.round_constants → Reached hash block 48 words.working words.window
-        → result ≡ sha.working (sha.schedule block 64) hash 64 }
-{
-    let s = words.working;
-    let w = words.window;
-    let s1 = round(s, constants[48], w[0]);
-    let s2 = round(s1, constants[49], w[1]);
-    let s3 = round(s2, constants[50], w[2]);
-    let s4 = round(s3, constants[51], w[3]);
-    let s5 = round(s4, constants[52], w[4]);
-    let s6 = round(s5, constants[53], w[5]);
-    let s7 = round(s6, constants[54], w[6]);
-    let s8 = round(s7, constants[55], w[7]);
-    let s9 = round(s8, constants[56], w[8]);
-    let s10 = round(s9, constants[57], w[9]);
-    let s11 = round(s10, constants[58], w[10]);
-    let s12 = round(s11, constants[59], w[11]);
-    let s13 = round(s12, constants[60], w[12]);
-    let s14 = round(s13, constants[61], w[13]);
-    let s15 = round(s14, constants[62], w[14]);
-    round(s15, constants[63], w[15])
-}
-
-// One round with a constant and a word of the schedule.
+// One round with a constant and a word of the schedule. Σ₀ and maj stand first: behind the other sum they take 24 bytes more of the stack.
+#[tactic(auto, unfolding(crate::specs::Sha256::round))]
 fn round(s: [u32; 8], constant: u32, word: u32) -> [u32; 8]
     ensures { result ≡ sha.round constant word s }
 {
+    let [a, b, c, d, e, f, g, h] = s;
+    let t2 = sum(big_sigma_0(a), maj(a, b, c));
     let t1 = sum(
-        sum(
-            sum(sum(s[7], big_sigma_1(s[4])), ch(s[4], s[5], s[6])),
-            constant,
-        ),
+        sum(sum(sum(h, big_sigma_1(e)), ch(e, f, g)), constant),
         word,
     );
-    let t2 = sum(big_sigma_0(s[0]), maj(s[0], s[1], s[2]));
-    [
-        sum(t1, t2),
-        s[0],
-        s[1],
-        s[2],
-        sum(s[3], t1),
-        s[4],
-        s[5],
-        s[6],
-    ]
+    [sum(t1, t2), a, b, c, sum(d, t1), e, f, g]
 }

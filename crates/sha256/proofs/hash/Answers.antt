@@ -7,17 +7,14 @@ use Rattle.sha256.proofs.hash.Goals as goal
 
 pub loop-n-init : goal.loop-n-init
 unfolding hashed
-loop-n-init c = (omega arith, refl)
+loop-n-init c = refl
 
 pub loop-n-preserved : goal.loop-n-preserved
 unfolding hashed
-loop-n-preserved c =
-    let loop = c.loop-n in
-    (omega arith, c.compress-next.ensures ∙ rw (add-one, c.block.ensures, loop.invariant.1))
+loop-n-preserved c = c.compress-next.ensures ∙ rw (add-one, c.block.ensures, c.loop-n.invariant)
 
 pub returns : goal.returns
 returns c =
-    let loop = c.loop-n in
     let s = c.args.s.now in
-    let all : loop.n ≡ length (padded s) / 64 = omega (arith, padded_length s) in
-    loop.invariant.1 ∙ ap (hashed (padded s)) all
+    let all : c.loop-n.n ≡ length (padded s) / 64 = omega (arith, padded_length s) in
+    c.loop-n.invariant ∙ ap (hashed (padded s)) all
