@@ -114,7 +114,6 @@ pub struct Taken {
 }
 
 // Whether a pool is one that the calls go on with.
-#[inline(always)]
 pub fn fits(opened: &Opened, held: &Summary, pool: &Pool) -> bool
     ensures { result ≡ spec.pool_fits opened.now held.now pool.now }
 {
@@ -189,7 +188,13 @@ pub fn take(pool: &Pool, releases: [Release; 64], limit: u32) -> Taken
 }
 
 // Drops the entries that no longer count: 18 where the pool doesn't fit. A refusal leaves the pool as it came.
-pub fn drop(genesis: &[u8], clock: Slot, held: &[u8], length: usize, pool: &mut Pool) -> Result<(), Refused>
+pub fn drop(
+    genesis: &[u8],
+    clock: Slot,
+    held: &[u8],
+    length: usize,
+    pool: &mut Pool,
+) -> Result<(), Refused>
     ensures answer { answer.told result ≡ given_as (λ _. tt) (spec.dropped genesis.now clock.0 held.now length pool.old) }
     ensures pool { pool.new ≡ pool_or pool.old (spec.dropped genesis.now clock.0 held.now length pool.old) }
 {
@@ -223,7 +228,13 @@ pub fn add(
 
 // An order behind the entries that are present: 5, 14, 20. A depot with room in its share has room in the pool: 13 can't occur.
 #[tactic(auto, using(crate::proofs::Joining::entries_of, crate::proofs::Joining::room_for_one, crate::proofs::Joining::joins))]
-fn join(opened: &Opened, held: &Summary, pool: &mut Pool, order: Order, depot: u32) -> Result<(), Refusal>
+fn join(
+    opened: &Opened,
+    held: &Summary,
+    pool: &mut Pool,
+    order: Order,
+    depot: u32,
+) -> Result<(), Refusal>
     requires { spec.present_fits opened.now.clock.0 pool.old ≡ true }
     ensures answer { told result ≡ given_as (λ _. tt) (spec.joined opened.now held.now (spec.counting held.now pool.old) (spec.entries_in pool.old) order depot) }
     ensures pool { pool.new ≡ pool_or pool.old (spec.joined opened.now held.now (spec.counting held.now pool.old) (spec.entries_in pool.old) order depot) }
