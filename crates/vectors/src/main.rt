@@ -1,96 +1,85 @@
 // Runs published vectors: FIPS 180-4's and lengths around a block for SHA-256, and 01's table for numbers. Writes what comes out, a line each.
 #![tactic(auto)]
 
-use number::{Number, Reading, Writing};
-use sha256::Answer;
+use console::{Hex, say};
+use number::Number;
+use std::fmt;
+
+const MESSAGES: [(&str, &[u8]); 4] = [
+    ("empty", b""),
+    ("abc", b"abc"),
+    (
+        "448 bits",
+        b"abcdbcdecdefdefgefghfghighijhijkijkljklmklmnlmnomnopnopq",
+    ),
+    (
+        "896 bits",
+        b"abcdefghbcdefghicdefghijdefghijkefghijklfghijklmghijklmnhijklmnoijklmnopjklmnopqklmnopqrlmnopqrsmnopqrstnopqrstu",
+    ),
+];
+
+// How often the letter a stands in a message.
+const LENGTHS: [usize; 8] = [55, 56, 63, 64, 119, 1000, 65536, 65537];
+
+const WRITTEN: [Number; 10] = [
+    0,
+    127,
+    128,
+    300,
+    16383,
+    16384,
+    4294967295,
+    4294967296,
+    34359738367,
+    34359738368,
+];
+
+const READ: [&[u8]; 5] = [
+    &[0x80, 0x00],
+    &[0xFF, 0xFF, 0xFF, 0xFF, 0x10],
+    &[0xFF, 0xFF, 0xFF, 0xFF, 0xFF],
+    &[0xFF, 0xFF, 0xFF, 0xFF, 0x00],
+    &[0x80],
+];
 
 fn main(rt: HostRuntime) {
-    digest_line(&rt, b"empty", b"");
-    digest_line(&rt, b"abc", b"abc");
-    digest_line(
-        &rt,
-        b"448 bits",
-        b"abcdbcdecdefdefgefghfghighijhijkijkljklmklmnlmnomnopnopq",
-    );
-    digest_line(
-        &rt,
-        b"896 bits",
-        b"abcdefghbcdefghicdefghijdefghijkefghijklfghijklmghijklmnhijklmnoijklmnopjklmnopqklmnopqrlmnopqrsmnopqrstnopqrstu",
-    );
+    for (name, message) in MESSAGES {
+        digest_line(&rt, name, message);
+    }
     let many = [b'a'; 65537];
-    digest_line(&rt, b"55 times a", &many[..55]);
-    digest_line(&rt, b"56 times a", &many[..56]);
-    digest_line(&rt, b"63 times a", &many[..63]);
-    digest_line(&rt, b"64 times a", &many[..64]);
-    digest_line(&rt, b"119 times a", &many[..119]);
-    digest_line(&rt, b"1000 times a", &many[..1000]);
-    digest_line(&rt, b"65536 times a", &many[..65536]);
-    digest_line(&rt, b"65537 times a", &many);
-    written_line(&rt, 0);
-    written_line(&rt, 127);
-    written_line(&rt, 128);
-    written_line(&rt, 300);
-    written_line(&rt, 16383);
-    written_line(&rt, 16384);
-    written_line(&rt, 4294967295);
-    written_line(&rt, 4294967296);
-    written_line(&rt, 34359738367);
-    written_line(&rt, 34359738368);
-    read_line(&rt, &[0x80, 0x00]);
-    read_line(&rt, &[0xFF, 0xFF, 0xFF, 0xFF, 0x10]);
-    read_line(&rt, &[0xFF, 0xFF, 0xFF, 0xFF, 0xFF]);
-    read_line(&rt, &[0xFF, 0xFF, 0xFF, 0xFF, 0x00]);
-    read_line(&rt, &[0x80]);
-}
-
-// A write that fails is let go: what it was to print is then missing.
-fn text(rt: &impl Print, bytes: &[u8]) {
-    let _ = rt.write_all(bytes);
-}
-
-fn digest_line(rt: &impl Print, name: &[u8], message: &[u8]) {
-    text(rt, b"sha256 of ");
-    text(rt, name);
-    let digested = sha256::digest(message);
-    let answer = digested.answer;
-    match answer {
-        Answer::Done => hex_bytes(rt, &digested.bytes),
-        Answer::TooLong => text(rt, b" refused 16"),
+    for length in LENGTHS {
+        let message = many.get(..length).unwrap_or_default();
+        digest_line(&rt, format_args!("{length} times a"), message);
     }
-    text(rt, b"\n");
-}
-
-fn hex_bytes(rt: &impl Print, bytes: &[u8]) {
-    text(rt, b" ");
-    for byte in bytes {
-        hex_byte(rt, *byte);
+    for value in WRITTEN {
+        written_line(&rt, value);
+    }
+    for bytes in READ {
+        read_line(&rt, bytes);
     }
 }
 
-fn hex_byte(rt: &impl Print, byte: u8) {
-    let _ = print!(rt; "{byte:02x}");
+fn digest_line(rt: &impl Print, name: impl fmt::Display + Drop, message: &[u8]) {
+    say(rt, format_args!("sha256 of {name} "));
+    match sha256::digest(message) {
+        Ok(digest) => say(rt, format_args!("{}\n", Hex(&digest))),
+        Err(refusal) => say(rt, format_args!("{refusal}\n")),
+    }
 }
 
 // A number's bytes, and the number that they read as.
 fn written_line(rt: &impl Print, value: Number) {
-    let mut out = [0u8; 5];
+    let mut out = [0; 5];
     match number::write(&mut out, 0, value) {
-        Writing::Next(next) => read_line(rt, &out[..next]),
-        Writing::Large => text(rt, b"number refused 4\n"),
-        Writing::Short => text(rt, b"number refused 15\n"),
+        Ok(next) => read_line(rt, &out[..next]),
+        Err(refusal) => say(rt, format_args!("number {refusal}\n")),
     }
 }
 
 fn read_line(rt: &impl Print, bytes: &[u8]) {
-    text(rt, b"number");
-    hex_bytes(rt, bytes);
+    say(rt, format_args!("number {} ", Hex(bytes)));
     match number::read(bytes, 0) {
-        Reading::Value(value, _) => {
-            text(rt, b" is ");
-            let _ = print!(rt; "{value}");
-        }
-        Reading::Cut => text(rt, b" refused 3"),
-        Reading::Badly => text(rt, b" refused 4"),
+        Ok((value, _)) => say(rt, format_args!("is {value}\n")),
+        Err(refusal) => say(rt, format_args!("{refusal}\n")),
     }
-    text(rt, b"\n");
 }

@@ -1,67 +1,23 @@
-// Single blocks, read: `block`, and `body` for what judging one needs. Also how a block is printed.
-use crate::{fields, print};
-use block::{Block, Orders, Place};
-use order::Order;
+// Single blocks, read: `block`, and `body` for what judging one needs.
+use crate::fields::Case;
+use crate::print::{Shown, refused};
+use console::say;
 
 // block BYTES AT
-pub fn block(rt: &impl Print, line: &[u8], bytes: &[u8]) {
-    let read = block::read(bytes, fields::place(line, 2));
-    let place = read.place;
-    let block = read.block;
-    match place {
-        Place::Next(next) => {
-            print_block(rt, block);
-            print::value(rt, b" next #", next as u64);
-        }
-        Place::Refused(number) => print::refused(rt, number),
+pub fn block(rt: &impl Print, case: &Case) {
+    match block::read(case.string(1), case.place(2)) {
+        Ok((block, next)) => say(rt, format_args!("{} next {next}", Shown(&block))),
+        Err(refusal) => refused(rt, refusal),
     }
 }
 
 // body BYTES AT
-pub fn body(rt: &impl Print, line: &[u8], bytes: &[u8]) {
-    let read = block::read_body(bytes, fields::place(line, 2));
-    let place = read.place;
-    let orders = read.orders;
-    let slot = read.slot;
-    match place {
-        Place::Next(next) => {
-            print_orders(rt, orders);
-            print::numbers(rt, b" slot # next #", &[slot.0 as u64, next as u64]);
+pub fn body(rt: &impl Print, case: &Case) {
+    match block::read_body(case.string(1), case.place(2)) {
+        Ok((body, next)) => {
+            let (orders, slot) = (Shown(&body.orders), body.slot.0);
+            say(rt, format_args!("{orders} slot {slot} next {next}"));
         }
-        Place::Refused(number) => print::refused(rt, number),
+        Err(refusal) => refused(rt, refusal),
     }
-}
-
-pub fn print_block(rt: &impl Print, block: Block) {
-    let front = block.front;
-    let link = front.link;
-    let slot_signature = front.slot_signature;
-    let block_signature = block.block_signature;
-    print::text(rt, b"link ");
-    print::bytes(rt, &link);
-    print::text(rt, b" ");
-    print_orders(rt, front.orders);
-    print::value(rt, b" slot # signatures ", front.slot.0 as u64);
-    print::bytes(rt, &slot_signature);
-    print::text(rt, b" ");
-    print::bytes(rt, &block_signature);
-}
-
-fn print_orders(rt: &impl Print, orders: Orders) {
-    print::value(rt, b"orders #", orders.count as u64);
-    let list = orders.list;
-    for i in 0..8 {
-        if i < orders.count as usize {
-            let order = list[i];
-            print_order(rt, order);
-        }
-    }
-}
-
-pub fn print_order(rt: &impl Print, order: Order) {
-    print::numbers(
-        rt,
-        b" # # #",
-        &[order.display as u64, order.expected, order.new],
-    );
 }

@@ -15,7 +15,8 @@ mod tables;
 mod walks;
 mod writes;
 
-use fields::{byte_at, field, part, put};
+use console::{read_full, say};
+use fields::Case;
 use std::io::Read;
 
 // The longest byte string that a field may stand for, and the byte strings of a line.
@@ -33,141 +34,146 @@ fn main(rt: HostRuntime) {
 
 // Nothing says that the input ends, so the turns are counted, up to more than there can be.
 fn run(rt: &impl Print, input: &mut impl Read, line: &mut [u8]) {
+    let mut chunk = [0u8; 4096];
     let mut used = 0;
     for _ in 0..u64::MAX {
-        match more(rt, input, line, used) {
-            Input::Used(next) => used = next,
-            Input::Ended => {
-                ended(rt, part(line, 0, used));
-                return;
-            }
-        }
-    }
-}
-
-// The last line may have no newline.
-fn ended(rt: &impl Print, line: &[u8]) {
-    if 0 < line.len() {
-        answered(rt, line);
-    }
-}
-
-#[derive(Drop)]
-enum Input {
-    // how many bytes of the line in hand are there
-    Used(usize),
-    Ended,
-}
-
-// Reads on, with so many bytes of a line in hand.
-fn more(rt: &impl Print, input: &mut impl Read, line: &mut [u8], used: usize) -> Input {
-    let mut bytes = [0u8; 4096];
-    let count = read_full(input, &mut bytes);
-    if count == 0 {
-        return Input::Ended;
-    }
-    Input::Used(all_taken(rt, line, used, &bytes[..count]))
-}
-
-// Reads until the buffer is full, the input ends or a read fails, and answers how many bytes there are.
-fn read_full(input: &mut impl Read, buf: &mut [u8]) -> usize
-    ensures { result ≤ length buf.new }
-{
-    let mut done = 0;
-    while done < buf.len() {
-        let more = input.read(&mut buf[done..]).unwrap_or(0);
-        if more == 0 {
+        let size = read_full(input, &mut chunk).unwrap_or_else(|broken| broken.done);
+        if size == 0 {
             break;
         }
-        done += more;
+        used = taken(rt, line, used, &chunk[..size]);
     }
-    done
+    // the last line may have no newline
+    if used > 0 {
+        answered(rt, &line[..used]);
+    }
 }
 
-fn all_taken(rt: &impl Print, line: &mut [u8], used: usize, bytes: &[u8]) -> usize {
+// Goes on with a line of which so many bytes are there, answers each that ends, and says how many bytes there are of the next.
+fn taken(rt: &impl Print, line: &mut [u8], used: usize, chunk: &[u8]) -> usize
+    requires { used ≤ length line.old }
+    ensures { result ≤ length line.new }
+{
     let mut next = used;
-    for byte in bytes {
-        next = taken(rt, line, next, *byte);
+    for byte in chunk {
+        if *byte == b'\n' {
+            answered(rt, &line[..next]);
+            next = 0;
+        } else if next < line.len() {
+            line[next] = *byte;
+            next += 1;
+        }
     }
     next
 }
 
-// One byte more: the line goes on, or is answered.
-fn taken(rt: &impl Print, line: &mut [u8], used: usize, byte: u8) -> usize {
-    if byte == b'\n' {
-        answered(rt, part(line, 0, used));
-        return 0;
-    }
-    put(line, used, byte)
-}
-
 // A comment, or an empty line, is printed as it stands.
 fn answered(rt: &impl Print, line: &[u8]) {
-    if byte_at(line, 0) == b'#' {
-        print::text(rt, line);
-    } else if 0 < line.len() {
-        answer(rt, line);
+    match line {
+        [] => {}
+        [b'#', ..] => {
+            let _ = rt.write_all(line);
+        }
+        _ => answer(rt, line),
     }
-    print::text(rt, b"\n");
+    say(rt, "\n");
 }
 
-// Each op with the least number of its fields, in the order of `run_op`.
-fn answer(rt: &impl Print, line: &[u8]) {
-    let op = op_of(
-        line,
-        b"valid 4 take 4 genesis 1 turn 2 depth 1 key 2 block 2 body 2 write 7 front 6 length 2 slot-text 2 walk 2 check 4 held 4 choose 5 adopt 6 drop 5 add 9 draft 8 text 8 append 8",
-    );
-    let mut bytes = [0u8; STRINGS];
-    let ends = fields::strings(line, &mut bytes);
-    let mut space = [0u8; ROOM];
-    run_op(rt, op, line, &bytes, &ends, &mut space);
+#[derive(Clone, Copy)]
+enum Op {
+    Valid,
+    Take,
+    Genesis,
+    Turn,
+    Depth,
+    Key,
+    Block,
+    Body,
+    Write,
+    Front,
+    Length,
+    SlotText,
+    Walk,
+    Check,
+    Held,
+    Choose,
+    Adopt,
+    Drop,
+    Add,
+    Draft,
+    Text,
+    Append,
 }
 
-// The place of a line's op among these, or their number if the line can't be read.
-fn op_of(line: &[u8], ops: &[u8]) -> usize {
-    let op = field(line, 0);
-    for i in 0..22 {
-        if fields::same(op, field(ops, 2 * i)) {
-            if fields::readable(line, fields::place(ops, 2 * i + 1)) {
-                return i;
-            }
+// Each op with the least number of its fields.
+const OPS: [(&[u8], usize, Op); 22] = [
+    (b"valid", 4, Op::Valid),
+    (b"take", 4, Op::Take),
+    (b"genesis", 1, Op::Genesis),
+    (b"turn", 2, Op::Turn),
+    (b"depth", 1, Op::Depth),
+    (b"key", 2, Op::Key),
+    (b"block", 2, Op::Block),
+    (b"body", 2, Op::Body),
+    (b"write", 7, Op::Write),
+    (b"front", 6, Op::Front),
+    (b"length", 2, Op::Length),
+    (b"slot-text", 2, Op::SlotText),
+    (b"walk", 2, Op::Walk),
+    (b"check", 4, Op::Check),
+    (b"held", 4, Op::Held),
+    (b"choose", 5, Op::Choose),
+    (b"adopt", 6, Op::Adopt),
+    (b"drop", 5, Op::Drop),
+    (b"add", 9, Op::Add),
+    (b"draft", 8, Op::Draft),
+    (b"text", 8, Op::Text),
+    (b"append", 8, Op::Append),
+];
+
+// A case's op, unless the line can't be read.
+fn op_of(case: &Case) -> Option<Op> {
+    for (name, least, op) in OPS {
+        if case.op == name && case.readable(least) {
+            return Some(op);
         }
     }
-    22
+    None
 }
 
-fn run_op(
-    rt: &impl Print,
-    op: usize,
-    line: &[u8],
-    bytes: &[u8],
-    ends: &[usize; 8],
-    space: &mut [u8],
-) {
-    let first = fields::string(bytes, ends, 1);
+fn answer(rt: &impl Print, line: &[u8]) {
+    let mut bytes = [0u8; STRINGS];
+    let case = Case::new(line, &mut bytes);
+    let mut space = [0u8; ROOM];
+    match op_of(&case) {
+        Some(op) => run_op(rt, op, &case, &mut space),
+        None => say(rt, "bad line"),
+    }
+}
+
+fn run_op(rt: &impl Print, op: Op, case: &Case, space: &mut [u8]) {
     match op {
-        0 => orders::valid(rt, line),
-        1 => orders::take(rt, line),
-        2 => tables::genesis(rt, first),
-        3 => tables::turn(rt, line, first),
-        4 => tables::depth(rt, first),
-        5 => tables::key(rt, line, first),
-        6 => blocks::block(rt, line, first),
-        7 => blocks::body(rt, line, first),
-        8 => writes::write(rt, line, space),
-        9 => writes::front(rt, line, space),
-        10 => writes::length(rt, line),
-        11 => writes::slot_text(rt, line, space),
-        12 => walks::walk(rt, line, first),
-        13 => chains::check(rt, line, bytes, ends),
-        14 => chains::held(rt, line, bytes, ends),
-        15 => adoptions::choose(rt, line, bytes, ends),
-        16 => adoptions::adopt(rt, line, bytes, ends, space),
-        17 => pools::drop(rt, line, bytes, ends),
-        18 => pools::add(rt, line, bytes, ends),
-        19 => issues::draft(rt, line, bytes, ends, space),
-        20 => issues::text(rt, line, bytes, ends, space),
-        21 => issues::append(rt, line, first, space),
-        _ => print::text(rt, b"bad line"),
+        Op::Valid => orders::valid(rt, case),
+        Op::Take => orders::take(rt, case),
+        Op::Genesis => tables::genesis(rt, case),
+        Op::Turn => tables::turn(rt, case),
+        Op::Depth => tables::depth(rt, case),
+        Op::Key => tables::key(rt, case),
+        Op::Block => blocks::block(rt, case),
+        Op::Body => blocks::body(rt, case),
+        Op::Write => writes::write(rt, case, space),
+        Op::Front => writes::front(rt, case, space),
+        Op::Length => writes::length(rt, case),
+        Op::SlotText => writes::slot_text(rt, case, space),
+        Op::Walk => walks::walk(rt, case),
+        Op::Check => chains::check(rt, case),
+        Op::Held => chains::held(rt, case),
+        Op::Choose => adoptions::choose(rt, case),
+        Op::Adopt => adoptions::adopt(rt, case, space),
+        Op::Drop => pools::drop(rt, case),
+        Op::Add => pools::add(rt, case),
+        Op::Draft => issues::draft(rt, case, space),
+        Op::Text => issues::text(rt, case, space),
+        Op::Append => issues::append(rt, case, space),
     }
 }

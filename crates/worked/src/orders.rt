@@ -1,42 +1,39 @@
 // Orders at one display's release: `valid` and `take`.
-use crate::{fields, print};
-use order::{Order, Release};
+use crate::fields::Case;
+use crate::print::Shown;
+use console::say;
+use order::{DISPLAYS, Order, Release};
 
 // valid DISPLAY RELEASE EXPECTED NEW
-pub fn valid(rt: &impl Print, line: &[u8]) {
-    let releases = releases(line);
-    verdict(rt, order::valid(&releases, ordered(line)));
+pub fn valid(rt: &impl Print, case: &Case) {
+    say(rt, verdict(order::valid(&releases(case), ordered(case))));
 }
 
 // take DISPLAY RELEASE EXPECTED NEW: the verdict, and the releases afterwards.
-pub fn take(rt: &impl Print, line: &[u8]) {
-    let mut releases = releases(line);
-    verdict(rt, order::take(&mut releases, ordered(line)));
-    print::releases(rt, &releases);
+pub fn take(rt: &impl Print, case: &Case) {
+    let mut releases = releases(case);
+    let verdict = verdict(order::take(&mut releases, ordered(case)));
+    say(rt, format_args!("{verdict}{}", Shown(&releases)));
 }
 
-fn verdict(rt: &impl Print, valid: bool) {
-    if valid {
-        print::text(rt, b"valid");
-    } else {
-        print::text(rt, b"not valid");
-    }
+fn verdict(valid: bool) -> &'static str {
+    if valid { "valid" } else { "not valid" }
 }
 
 // The display at its release, every other at 0.
-fn releases(line: &[u8]) -> [Release; 64] {
-    let mut releases: [Release; 64] = [0; 64];
-    let display = fields::place(line, 1);
-    if display < 64 {
-        releases[display] = fields::release(line, 2);
+fn releases(case: &Case) -> [Release; DISPLAYS] {
+    let mut releases = [0; DISPLAYS];
+    let display = case.place(1);
+    if display < DISPLAYS {
+        releases[display] = case.release(2);
     }
     releases
 }
 
-fn ordered(line: &[u8]) -> Order {
+fn ordered(case: &Case) -> Order {
     Order {
-        display: fields::number(line, 1),
-        expected: fields::release(line, 3),
-        new: fields::release(line, 4),
+        display: case.number(1),
+        expected: case.release(3),
+        new: case.release(4),
     }
 }

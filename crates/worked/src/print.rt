@@ -1,126 +1,151 @@
-// What an answer is printed with. A write that fails is let go: what it was to print is then missing.
-ghost use Rattle.std.specs.Prelude.{◌≤◌};
+// What answers are made of, as they are printed.
+use block::{Block, Orders};
+use chain::{Refused, Standing};
+use console::{Hex, say};
+use genesis::Genesis;
+use order::{Order, Release};
+use pool::{Entry, Pool};
+use std::fmt;
 
-use crate::fields::part;
-use order::Release;
-use refusal::Answer;
-
-pub fn text(rt: &impl Print, bytes: &[u8]) {
-    let _ = rt.write_all(bytes);
+// A refusal with its place, which is 0 where no block is refused.
+pub fn refused(rt: &impl Print, refused: impl Into<Refused>) {
+    say(rt, refused.into());
 }
 
-fn decimal(rt: &impl Print, value: u64) {
-    let _ = print!(rt; "{value}");
-}
-
-// A text with the numbers in place of its `#`, one after another.
-pub fn numbers(rt: &impl Print, form: &[u8], numbers: &[u64]) {
-    let mut next = 0;
-    for i in 0..form.len() {
-        if form[i] != b'#' {
-            text(rt, part(form, i, i + 1));
-        } else if next < numbers.len() {
-            decimal(rt, numbers[next]);
-            next += 1;
-        }
+// A number with its name, or a refusal, and then every byte of a buffer.
+pub fn written(
+    rt: &impl Print,
+    name: &str,
+    number: Result<usize, impl Into<Refused>>,
+    buffer: &[u8],
+) {
+    match number {
+        Ok(number) => say(rt, format_args!("{name} {number}")),
+        Err(refusal) => refused(rt, refusal),
     }
-}
-
-pub fn value(rt: &impl Print, form: &[u8], value: u64) {
-    numbers(rt, form, &[value]);
-}
-
-// Prints a refusal, with its place, and says whether there is none.
-pub fn good(rt: &impl Print, answer: Answer) -> bool {
-    match answer {
-        Answer::Good => true,
-        Answer::Refused(number, place) => {
-            numbers(rt, b"refused # #", &[number as u64, place.0 as u64]);
-            false
-        }
-    }
-}
-
-// A refusal with no place.
-pub fn refused(rt: &impl Print, number: u32) {
-    value(rt, b"refused # 0", number as u64);
+    say(rt, format_args!(" {}", Bytes(buffer)));
 }
 
 // Bytes in the form of a case's field: pieces of hexadecimal digits, where a byte that stands four times or more is written once.
-pub fn bytes(rt: &impl Print, s: &[u8]) {
-    if s.len() == 0 {
-        text(rt, b"-");
-    }
-    let mut next = 0;
-    for i in 0..s.len() {
-        if i == next {
-            next = piece(rt, s, i);
+#[derive(Clone, Copy)]
+pub struct Bytes<'a>(pub &'a [u8]);
+
+impl fmt::Display for Bytes<'_> {
+    fn fmt<W: fmt::Write>(&self, f: &mut fmt::Formatter<W>) -> fmt::Result {
+        if self.0.is_empty() {
+            return f.write_str("-");
         }
-    }
-}
-
-// Prints the piece at a place, and answers the place after it.
-fn piece(rt: &impl Print, s: &[u8], at: usize) -> usize {
-    if 0 < at {
-        text(rt, b"+");
-    }
-    let end = run_end(s, at);
-    if end - at < 4 {
-        let end = plain_end(s, at);
-        hex_bytes(rt, part(s, at, end));
-        return end;
-    }
-    hex_bytes(rt, part(s, at, at + 1));
-    text(rt, b"*");
-    decimal(rt, (end - at) as u64);
-    end
-}
-
-// Where the bytes that are equal to the one at a place end.
-fn run_end(s: &[u8], at: usize) -> usize
-    ensures { at ≤ result }
-{
-    let mut i = at;
-    while i < s.len() {
-        if s[i] != s[at] {
-            return i;
+        let mut in_digits = false;
+        for (place, run) in self.0.chunk_by(|byte, next| *byte == *next).enumerate() {
+            let once = run.len() < 4;
+            if place > 0 && !(in_digits && once) {
+                f.write_str("+")?;
+            }
+            match run {
+                [byte, ..] if !once => write!(f, "{byte:02x}*{}", run.len())?,
+                _ => write!(f, "{}", Hex(run))?,
+            }
+            in_digits = once;
         }
-        i += 1;
-    }
-    i
-}
-
-// Where the next byte that stands four times or more begins.
-fn plain_end(s: &[u8], at: usize) -> usize {
-    let mut i = at;
-    while i < s.len() {
-        if 4 <= run_end(s, i) - i {
-            return i;
-        }
-        i += 1;
-    }
-    i
-}
-
-fn hex_bytes(rt: &impl Print, bytes: &[u8]) {
-    for byte in bytes {
-        hex_byte(rt, *byte);
+        Ok(())
     }
 }
 
-fn hex_byte(rt: &impl Print, byte: u8) {
-    let _ = print!(rt; "{byte:02x}");
-}
+// A value of the library.
+#[derive(Clone, Copy)]
+pub struct Shown<'a, T>(pub &'a T);
 
 // The displays whose release is not 0, each with its release.
-pub fn releases(rt: &impl Print, releases: &[Release; 64]) {
-    for display in 0..64 {
-        release(rt, display, releases[display]);
+impl fmt::Display for Shown<'_, [Release; 64]> {
+    fn fmt<W: fmt::Write>(&self, f: &mut fmt::Formatter<W>) -> fmt::Result {
+        for (display, release) in self.0.iter().enumerate() {
+            if *release != 0 {
+                write!(f, " {display}:{release}")?;
+            }
+        }
+        Ok(())
     }
 }
 
-fn release(rt: &impl Print, display: usize, release: Release) {
-    if release != 0 {
-        numbers(rt, b" #:#", &[display as u64, release]);
+impl fmt::Display for Shown<'_, Order> {
+    fn fmt<W: fmt::Write>(&self, f: &mut fmt::Formatter<W>) -> fmt::Result {
+        let Order {
+            display,
+            expected,
+            new,
+        } = *self.0;
+        write!(f, " {display} {expected} {new}")
+    }
+}
+
+impl fmt::Display for Shown<'_, Orders> {
+    fn fmt<W: fmt::Write>(&self, f: &mut fmt::Formatter<W>) -> fmt::Result {
+        write!(f, "orders {}", self.0.count)?;
+        for order in self.0.as_slice() {
+            write!(f, "{}", Shown(order))?;
+        }
+        Ok(())
+    }
+}
+
+impl fmt::Display for Shown<'_, Block> {
+    fn fmt<W: fmt::Write>(&self, f: &mut fmt::Formatter<W>) -> fmt::Result {
+        let front = &self.0.front;
+        write!(f, "link {} {}", Bytes(&front.link), Shown(&front.orders))?;
+        write!(f, " slot {}", front.slot.0)?;
+        write!(f, " signatures {}", Bytes(&front.slot_signature))?;
+        write!(f, " {}", Bytes(&self.0.block_signature))
+    }
+}
+
+impl fmt::Display for Shown<'_, Genesis> {
+    fn fmt<W: fmt::Write>(&self, f: &mut fmt::Formatter<W>) -> fmt::Result {
+        let Genesis {
+            n,
+            t,
+            u,
+            releases,
+            keys_at,
+        } = *self.0;
+        let releases = Shown(&releases);
+        write!(f, "n {n} t {t} u {u} keys at {keys_at} releases{releases}")
+    }
+}
+
+impl fmt::Display for Shown<'_, Standing> {
+    fn fmt<W: fmt::Write>(&self, f: &mut fmt::Formatter<W>) -> fmt::Result {
+        let Standing {
+            count,
+            length,
+            stamp,
+            ..
+        } = *self.0;
+        let (count, stamp) = (count.0, stamp.0);
+        write!(f, "count {count} length {length} stamp {stamp}")?;
+        let (link, releases) = (Bytes(&self.0.link), Shown(&self.0.releases));
+        write!(f, " link {link} releases{releases}")
+    }
+}
+
+impl fmt::Display for Shown<'_, Entry> {
+    fn fmt<W: fmt::Write>(&self, f: &mut fmt::Formatter<W>) -> fmt::Result {
+        let Entry { order, slot, depot } = *self.0;
+        let (order, slot) = (Shown(&order), slot.0);
+        write!(f, "{order} {slot} {depot}")
+    }
+}
+
+// The entries within the count, and of those past it each that is not of zeros, with its place.
+impl fmt::Display for Shown<'_, Pool> {
+    fn fmt<W: fmt::Write>(&self, f: &mut fmt::Formatter<W>) -> fmt::Result {
+        write!(f, "pool {}", self.0.count)?;
+        for (place, entry) in self.0.entries.iter().enumerate() {
+            if place < self.0.count as usize {
+                write!(f, "{}", Shown(entry))?;
+            } else if *entry != Entry::default() {
+                write!(f, " past {place}{}", Shown(entry))?;
+            }
+        }
+        Ok(())
     }
 }

@@ -1,39 +1,22 @@
 // Walks over chains: `walk`.
-use crate::blocks::print_block;
-use crate::{fields, print};
-use walk::Reached;
+use crate::fields::Case;
+use crate::print::{Shown, refused};
+use console::say;
+use walk::Walk;
 
-// walk CHAIN AT: a line for each step, up to the first that gives no block. No chain that a line has room for has a thousand blocks.
-pub fn walk(rt: &impl Print, line: &[u8], chain: &[u8]) {
-    let mut place = fields::place(line, 2);
+// walk CHAIN AT: a line for each step, up to the first that gives no block. Of more than a thousand blocks no more are printed.
+pub fn walk(rt: &impl Print, case: &Case) {
+    let mut walk = Walk::new(case.string(1), case.place(2));
     for _ in 0..1000 {
-        if !step(rt, chain, place) {
-            print::value(rt, b", then at #", walk::place_after(chain, place) as u64);
-            return;
+        say(rt, format_args!("at {} ", walk.at));
+        match walk.next() {
+            Ok(Some(block)) => {
+                say(rt, format_args!("{}\n", Shown(&block)));
+                continue;
+            }
+            Ok(None) => say(rt, "end"),
+            Err(refusal) => refused(rt, refusal),
         }
-        place = walk::place_after(chain, place);
-    }
-}
-
-// One step, and whether it gave a block.
-fn step(rt: &impl Print, chain: &[u8], at: usize) -> bool {
-    print::value(rt, b"at # ", at as u64);
-    let stepped = walk::walked(chain, at);
-    let reached = stepped.reached;
-    let block = stepped.block;
-    match reached {
-        Reached::Block(_) => {
-            print_block(rt, block);
-            print::text(rt, b"\n");
-            true
-        }
-        Reached::End => {
-            print::text(rt, b"end");
-            false
-        }
-        Reached::Refused(number) => {
-            print::refused(rt, number);
-            false
-        }
+        return say(rt, format_args!(", then at {}", walk.at));
     }
 }

@@ -1,95 +1,47 @@
 // Blocks, their fronts and slot texts written into lent buffers: `write`, `front`, `length`, `slot-text`. What is printed ends with every
 // byte of the buffer, so that a byte that should have stayed is seen.
-use crate::{fields, print};
-use block::{Block, Front, Orders, Place};
-use order::Order;
+use crate::fields::Case;
+use crate::print::written;
+use block::{Block, Front};
+use console::say;
 
 // write BUFFER AT LINK SLOT SLOT-SIGNATURE BLOCK-SIGNATURE COUNT DISPLAY EXPECTED NEW ..
-pub fn write(rt: &impl Print, line: &[u8], space: &mut [u8]) {
-    let buffer = fields::buffer(line, 1, space);
-    let front = front_of(line, 7);
-    let block_signature = signature(line, 6);
+pub fn write(rt: &impl Print, case: &Case, space: &mut [u8]) {
+    let buffer = case.buffer(1, space);
     let block = Block {
-        front,
-        block_signature,
+        front: front_of(case, 7),
+        block_signature: case.array(6),
     };
-    written(rt, block::write(buffer, fields::place(line, 2), block));
-    print::bytes(rt, buffer);
+    let next = block::write(buffer, case.place(2), block);
+    written(rt, "next", next, buffer);
 }
 
 // front BUFFER AT LINK SLOT SLOT-SIGNATURE COUNT DISPLAY EXPECTED NEW ..
-pub fn front(rt: &impl Print, line: &[u8], space: &mut [u8]) {
-    let buffer = fields::buffer(line, 1, space);
-    let front = front_of(line, 6);
-    written(
-        rt,
-        block::write_front(buffer, fields::place(line, 2), front),
-    );
-    print::bytes(rt, buffer);
+pub fn front(rt: &impl Print, case: &Case, space: &mut [u8]) {
+    let buffer = case.buffer(1, space);
+    let next = block::write_front(buffer, case.place(2), front_of(case, 6));
+    written(rt, "next", next, buffer);
 }
 
 // slot-text SLOT BUFFER
-pub fn slot_text(rt: &impl Print, line: &[u8], space: &mut [u8]) {
-    let buffer = fields::buffer(line, 2, space);
-    written(rt, block::slot_text(buffer, fields::slot(line, 1)));
-    print::bytes(rt, buffer);
-}
-
-fn written(rt: &impl Print, place: Place) {
-    match place {
-        Place::Next(next) => print::value(rt, b"next #", next as u64),
-        Place::Refused(number) => print::refused(rt, number),
-    }
-    print::text(rt, b" ");
+pub fn slot_text(rt: &impl Print, case: &Case, space: &mut [u8]) {
+    let buffer = case.buffer(2, space);
+    let next = block::slot_text(buffer, case.slot(1));
+    written(rt, "next", next, buffer);
 }
 
 // length SLOT COUNT DISPLAY EXPECTED NEW ..
-pub fn length(rt: &impl Print, line: &[u8]) {
-    let length = block::length(orders_of(fields::tail(line, 2)), fields::slot(line, 1));
-    print::value(rt, b"length #", length as u64);
+pub fn length(rt: &impl Print, case: &Case) {
+    let length = block::length(case.fields(2).orders(), case.slot(1));
+    say(rt, format_args!("length {length}"));
 }
 
 // The parts that both kinds of writing take. The orders stand last, from this field on.
-fn front_of(line: &[u8], orders: usize) -> Front {
-    let mut link = [0u8; 32];
-    fields::bytes(line, 3, &mut link);
-    let slot_signature = signature(line, 5);
-    let orders = orders_of(fields::tail(line, orders));
+fn front_of(case: &Case, orders: usize) -> Front {
     Front {
-        link,
-        orders,
-        slot: fields::slot(line, 4),
-        slot_signature,
-    }
-}
-
-pub fn signature(line: &[u8], spaces: usize) -> [u8; 64] {
-    let mut signature = [0u8; 64];
-    fields::bytes(line, spaces, &mut signature);
-    signature
-}
-
-// A count, and three numbers for each of the listed orders, of which there may be more or fewer.
-fn orders_of(fields: &[u8]) -> Orders {
-    let none = Order {
-        display: 0,
-        expected: 0,
-        new: 0,
-    };
-    let mut list = [none; 8];
-    for i in 0..8 {
-        list[i] = order_of(fields::tail(fields, 3 * i + 1));
-    }
-    Orders {
-        count: fields::number(fields, 0),
-        list,
-    }
-}
-
-pub fn order_of(fields: &[u8]) -> Order {
-    Order {
-        display: fields::number(fields, 0),
-        expected: fields::release(fields, 1),
-        new: fields::release(fields, 2),
+        link: case.array(3),
+        orders: case.fields(orders).orders(),
+        slot: case.slot(4),
+        slot_signature: case.array(5),
     }
 }
