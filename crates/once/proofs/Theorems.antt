@@ -337,13 +337,13 @@ take_answers_once κs a x y s t p q = p ∙ sym q
 pub drop_answers_once : OneAnswer 3 pool-drop-kinds.ps pool-drop-kinds.r pool-drop.Post
 drop_answers_once κs a x y s t p q = placed_faithful x y (p.0 ∙ sym q.0)
 
-pub drop_leaves_the_pool_once : OneLater 3 pool-drop-kinds.ps pool-drop-kinds.r pool-drop.Post (λ κs s. s.1.1.0.now)
+pub drop_leaves_the_pool_once : OneLater 3 pool-drop-kinds.ps pool-drop-kinds.r pool-drop.Post (λ κs s. s.1.1.1.1.0.now)
 drop_leaves_the_pool_once κs a x y s t p q = p.1 ∙ sym q.1
 
 pub add_answers_once : OneAnswer 3 pool-add-kinds.ps pool-add-kinds.r pool-add.Post
 add_answers_once κs a x y s t p q = placed_faithful x y (p.0 ∙ sym q.0)
 
-pub add_leaves_the_pool_once : OneLater 3 pool-add-kinds.ps pool-add-kinds.r pool-add.Post (λ κs s. s.1.1.0.now)
+pub add_leaves_the_pool_once : OneLater 3 pool-add-kinds.ps pool-add-kinds.r pool-add.Post (λ κs s. s.1.1.1.1.0.now)
 add_leaves_the_pool_once κs a x y s t p q = p.1 ∙ sym q.1
 
 -- ---- issue
