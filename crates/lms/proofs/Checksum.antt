@@ -1,20 +1,31 @@
--- What the checksum of a hash does: a hash whose digits are all as large as another's is that other one.
+-- The checksum of a hash as a sum over its bytes, and what it does: a hash whose digits are all as large as another's is that other one.
 -- Assumes nothing.
-use mathlib.Core.Path.{◌≡◌, sym, ap, ◌∙◌}
+use mathlib.Core.Path.{◌≡◌, refl, sym, ap, ◌∙◌}
 use mathlib.Core.List.{List}
-use Prim.Native.Nat.{ℕ, zero, suc, ◌+◌, ◌*◌, ◌/◌, ◌%◌, ◌<◌, ◌≤◌}
+use Prim.Native.Nat.{ℕ, zero, suc, ◌+◌, ◌-◌, ◌*◌, ◌/◌, ◌%◌, ◌<◌, ◌≤◌}
 use native.Mathlib.Nat.{not-suc-le-zero}
+use native.Mathlib.Numerals.{add-one}
 use native.Mathlib.Omega.{arith}
-use lib.ListN.{length, get_or, get_or-append}
-use lib.Seq.{ext_get_or, get_or-append-add}
+use lib.ListN.{length, get_or, take, get_or-append}
+use lib.Seq.{ext_get_or, get_or-append-add, take_all}
+use Rattle.std.specs.List.{sum_by}
+use Rattle.std.proofs.lemmas.List.Sums.{sum_by_more}
 use Rattle.laws.specs.Format.{Bytes}
 use Rattle.laws.proofs.Cases.{lt_cases}
 use Rattle.lms.specs.Lms.{u16str, checksum, digits}
 
-small : (hash : List ℕ) (n : ℕ) → checksum hash n ≤ 255 * n
+pub small : (hash : List ℕ) (n : ℕ) → checksum hash n ≤ 255 * n
 unfolding checksum
 small hash zero = omega arith
 small hash (suc n) = omega (arith, small hash n)
+
+summed : (hash : List ℕ) (n : ℕ) → n ≤ length hash → sum_by (λ digit. 255 - digit) (take n hash) ≡ checksum hash n
+unfolding checksum
+summed hash zero h = refl
+summed hash (suc n) h = rw (← (add-one n), sum_by_more (λ (digit : ℕ). 255 - digit) hash n 0, summed hash n (omega arith))
+
+pub sum_is : (hash : List ℕ) (n : ℕ) → n ≡ length hash → sum_by (λ digit. 255 - digit) hash ≡ checksum hash n
+sum_is hash n whole = ap (sum_by (λ (digit : ℕ). 255 - digit)) (sym (take_all n hash (omega arith))) ∙ summed hash n (omega arith)
 
 -- the checksum's bytes
 behind : (hash : List ℕ) → length hash ≡ 32 → (k : ℕ) → get_or (digits hash) (32 + k) 0 ≡ get_or (u16str (checksum hash 32)) k 0

@@ -1,4 +1,3 @@
-pub mod Texts
 pub mod Sizes
 pub mod Chains
 pub mod Checksum

@@ -10,7 +10,7 @@ ghost use Rattle.lms.specs.Lms as spec;
 ghost use Rattle.refusal.specs.Answers.{told};
 
 use refusal::Refusal;
-use strings::number_at;
+use strings::{Key, Signature, number_at};
 
 pub const KEY_BYTES: usize = 56;
 
@@ -18,10 +18,9 @@ pub const SIGNATURE_BYTES: usize = 1292;
 
 pub const LONGEST_MESSAGE: usize = 256;
 
-// LMS_SHA256_M32_H5
-const TREE_TYPE: u32 = 5;
-// LMOTS_SHA256_N32_W8
-const ONE_TIME_TYPE: u32 = 4;
+const LMS_SHA256_M32_H5: u32 = 5;
+
+const LMOTS_SHA256_N32_W8: u32 = 4;
 
 pub fn verify(key: &[u8], signature: &[u8], message: &[u8]) -> Result<(), Refusal>
     ensures { told result ≡ spec.verified key.now signature.now message.now }
@@ -29,7 +28,13 @@ pub fn verify(key: &[u8], signature: &[u8], message: &[u8]) -> Result<(), Refusa
     if LONGEST_MESSAGE < message.len() {
         return Err(Refusal::TooLong);
     }
-    if !well_formed(key, signature) {
+    let Ok(key) = <&Key>::try_from(key) else {
+        return Err(Refusal::BadForm);
+    };
+    let Ok(signature) = <&Signature>::try_from(signature) else {
+        return Err(Refusal::BadForm);
+    };
+    if !well_typed(key, signature) {
         return Err(Refusal::BadForm);
     }
     if !verifies(key, signature, message) {
@@ -38,30 +43,19 @@ pub fn verify(key: &[u8], signature: &[u8], message: &[u8]) -> Result<(), Refusa
     Ok(())
 }
 
-// Whether the lengths and the type codes fit.
-fn well_formed(key: &[u8], signature: &[u8]) -> bool
+// Whether the type codes fit.
+fn well_typed(key: &Key, signature: &Signature) -> bool
     ensures { result ≡ spec.well_formed key.now signature.now }
 {
-    if key.len() != KEY_BYTES {
-        return false;
-    }
-    if signature.len() != SIGNATURE_BYTES {
-        return false;
-    }
-    if number_at(key, 0) != TREE_TYPE {
-        return false;
-    }
-    if number_at(key, 4) != ONE_TIME_TYPE {
-        return false;
-    }
-    if number_at(signature, 4) != ONE_TIME_TYPE {
-        return false;
-    }
-    number_at(signature, 1128) == TREE_TYPE
+    number_at(key, 0) == LMS_SHA256_M32_H5
+        && number_at(key, 4) == LMOTS_SHA256_N32_W8
+        && number_at(signature, 4) == LMOTS_SHA256_N32_W8
+        && number_at(signature, 1128) == LMS_SHA256_M32_H5
 }
 
-fn verifies(key: &[u8], signature: &[u8], message: &[u8]) -> bool
-    requires { (length key.now ≡ 56) × (length signature.now ≡ 1292) × (length message.now ≤ spec.longest_message) }
+#[tactic(auto, unfolding(crate::specs::Lms::verifies))]
+fn verifies(key: &Key, signature: &Signature, message: &[u8]) -> bool
+    requires { length message.now ≤ spec.longest_message }
     ensures { result ≡ spec.verifies key.now signature.now message.now }
 {
     let q = number_at(signature, 0);

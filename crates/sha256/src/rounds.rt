@@ -1,6 +1,6 @@
 // One block of FIPS 180-4, section 6.2.2: 64 rounds of the eight working words. Of the message schedule only the last sixteen words are kept, and
 // each word is made as it is needed. Both go by value from helper to helper.
-ghost use Rattle.std.specs.Prelude.{◌≡◌, ℕ, suc, ◌≤◌, List};
+ghost use Rattle.std.specs.Prelude.{◌≡◌, ℕ, ◌+◌, ◌≤◌, List};
 ghost use Rattle.sha256.specs.Sha256 as sha;
 ghost use Rattle.sha256.specs.Steps.{Reached, mixed_of, moved_on};
 
@@ -38,50 +38,40 @@ struct Words {
 }
 
 impl Words {
-    // All rounds of a block, from its hash and its words. Each place in the table is a numeral, so that each constant becomes part of an instruction.
-    // Tried, and slower: a loop over two rounds runs at 0.81 of the speed, one over sixteen at 0.96.
+    // All rounds of a block, from its hash and its words. Tried, and slower: a loop over two rounds runs at 0.81 of the speed, one over sixteen at 0.96.
     fn rounds(self) -> [u32; 8]
         ensures { result ≡ sha.working (sha.schedule self.window 64) self.working 64 }
     {
-        self.two_rounds(0)
-            .two_rounds(2)
-            .two_rounds(4)
-            .two_rounds(6)
-            .two_rounds(8)
-            .two_rounds(10)
-            .two_rounds(12)
-            .two_rounds(14)
-            .two_rounds(16)
-            .two_rounds(18)
-            .two_rounds(20)
-            .two_rounds(22)
-            .two_rounds(24)
-            .two_rounds(26)
-            .two_rounds(28)
-            .two_rounds(30)
-            .two_rounds(32)
-            .two_rounds(34)
-            .two_rounds(36)
-            .two_rounds(38)
-            .two_rounds(40)
-            .two_rounds(42)
-            .two_rounds(44)
-            .two_rounds(46)
-            .two_rounds(48)
-            .two_rounds(50)
-            .two_rounds(52)
-            .two_rounds(54)
-            .two_rounds(56)
-            .two_rounds(58)
-            .two_rounds(60)
-            .two_rounds(62)
+        self.sixteen_rounds(0)
+            .sixteen_rounds(16)
+            .sixteen_rounds(32)
+            .sixteen_rounds(48)
             .working
     }
 
-    // Two rounds from round t on, and the window moved on past their words: short enough that the compiler puts it in at every call.
+    // Put in at every call, so that each place in the table is a numeral, and each constant part of an instruction.
+    #[inline(always)]
+    fn sixteen_rounds(self, t: usize) -> Words
+        requires { t ≤ 48 }
+        ensures { (hash block : List ℕ) (next : ℕ) → next ≡ t + 16 → Reached hash block t self.working self.window
+            → Reached hash block next result.working result.window }
+    {
+        self.two_rounds(t)
+            .two_rounds(t + 2)
+            .two_rounds(t + 4)
+            .two_rounds(t + 6)
+            .two_rounds(t + 8)
+            .two_rounds(t + 10)
+            .two_rounds(t + 12)
+            .two_rounds(t + 14)
+    }
+
+    // Two rounds from round t on, and the window moved on past their words.
+    #[inline(always)]
     fn two_rounds(self, t: usize) -> Words
         requires { t ≤ 62 }
-        ensures { (hash block : List ℕ) → Reached hash block t self.working self.window → Reached hash block (suc (suc t)) result.working result.window }
+        ensures { (hash block : List ℕ) (next : ℕ) → next ≡ t + 2 → Reached hash block t self.working self.window
+            → Reached hash block next result.working result.window }
     {
         let s = self.working;
         let w = self.window;
