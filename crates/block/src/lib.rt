@@ -61,7 +61,8 @@ pub struct Body {
     pub slot: Slot,
 }
 
-// A block, and the place after it.
+// A block, and the place after it. Put in at every call, so that it is copied once less on its way.
+#[inline(always)]
 #[tactic(auto, using(crate::proofs::Bodies::block_is_held))]
 pub fn read(s: &[u8], at: usize) -> Result<(Block, usize), Refusal>
     ensures { told_found result ≡ found_as block_in (block_at s.now at) }

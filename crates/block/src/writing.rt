@@ -34,8 +34,13 @@ pub fn write_front(out: &mut [u8], at: usize, front: Front) -> Result<usize, Ref
     write_with(out, at, &front, &[])
 }
 
-// Writes a front and bytes behind it, if there is room for both.
-fn write_with(out: &mut [u8], at: usize, front: &Front, behind: &[u8]) -> Result<usize, Refusal>
+// Writes a front and so many bytes behind it, if there is room for both.
+fn write_with<const N: usize>(
+    out: &mut [u8],
+    at: usize,
+    front: &Front,
+    behind: &[u8; N],
+) -> Result<usize, Refusal>
     requires { length behind.now ≤ 64 }
     ensures answer { told result ≡ placed_if (front_fits front.now) 5 out.old at (front_of front.now ++ behind.now) }
     ensures buffer { out.new ≡ placing_if (front_fits front.now) out.old at (front_of front.now ++ behind.now) }

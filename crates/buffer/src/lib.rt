@@ -23,6 +23,9 @@ pub fn put(out: &mut [u8], at: usize, bytes: &[u8]) -> Result<usize, Refusal>
         return Err(Refusal::ShortBuffer);
     }
     let end = at + bytes.len();
-    out[at..end].copy_from_slice(bytes);
+    // one by one: `copy_from_slice` calls `memmove`, which not every host has
+    for (i, byte) in bytes.iter().enumerate() {
+        out[at + i] = *byte;
+    }
     Ok(end)
 }

@@ -2,6 +2,7 @@
 #![tactic(auto)]
 
 ghost use Rattle.std.specs.Prelude.{◌≤◌, ◌/◌, ◌≡◌, length, min, IfOk, IfErr};
+ghost use Rattle.console.specs.Hex.{digit_of, byte_of};
 
 use std::fmt;
 use std::io::Read;
@@ -30,7 +31,8 @@ pub fn read_full(input: &mut impl Read, buf: &mut [u8]) -> Result<usize, Broken>
 
 // The value of a hexadecimal digit. What is none counts as 0.
 pub fn digit(byte: u8) -> u8
-    ensures { result ≤ 15 }
+    ensures value { result ≡ digit_of byte }
+    ensures small { result ≤ 15 }
 {
     match byte {
         b'0'..=b'9' => byte - b'0',
@@ -40,7 +42,9 @@ pub fn digit(byte: u8) -> u8
 }
 
 // The byte that two digits stand for.
-pub fn byte(high: u8, low: u8) -> u8 {
+pub fn byte(high: u8, low: u8) -> u8
+    ensures { result ≡ byte_of high low }
+{
     digit(high) * 16 + digit(low)
 }
 

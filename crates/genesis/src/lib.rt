@@ -40,7 +40,8 @@ pub fn read(bytes: &[u8]) -> Result<Genesis, Refusal>
 }
 
 // The table, if its numbers keep the rules and its keys end where they must, or the first fault, whatever it is. The releases are read here, so that
-// no copy of them lies on the stack.
+// no copy of them lies on the stack, and it is put in at every call, so that `find_key`, which needs none, keeps none.
+#[inline(always)]
 fn read_table(bytes: &[u8]) -> Result<Genesis, Refusal>
     ensures { told result ≡ spec.table_in bytes.now }
 {
@@ -67,7 +68,7 @@ fn read_table(bytes: &[u8]) -> Result<Genesis, Refusal>
 
 // What stands before the releases, as it was read: no rule need hold of it.
 #[derive(Clone, Copy)]
-struct Head {
+pub struct Head {
     pub n: Number,
     pub t: Number,
     pub u: Number,

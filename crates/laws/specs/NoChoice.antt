@@ -11,6 +11,12 @@ module _ (n : ℕ) (ps : List (ParamKind n)) (r : ResultKind n) (post : Out n ps
   OneAnswer =
       (κs : Lfts n) (a : Dens κs ps) (x y : (res_t r κs).Denot) (s t : AtExit (ended_of n ps r) κs) → post κs a x s → post κs a y t → x ≡ y
 
+  -- `seen` reads what is lent as the answer
+  abbrev pub OneSeen : {B : Type 0} → ((κs : Lfts n) → (res_t r κs).Denot → B) → Type 0
+  OneSeen seen =
+      (κs : Lfts n) (a : Dens κs ps) (x y : (res_t r κs).Denot) (s t : AtExit (ended_of n ps r) κs) → post κs a x s → post κs a y t
+      → seen κs x ≡ seen κs y
+
   -- `later` reads what was lent, when the call has ended
   abbrev pub OneLater : {B : Type 0} → ((κs : Lfts n) → AtExit (ended_of n ps r) κs → B) → Type 0
   OneLater later =

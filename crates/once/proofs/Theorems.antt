@@ -1,8 +1,8 @@
 -- No second answer: of each public function, two runs on the same arguments that both meet its contract answer the same, and leave the same in what was
 -- lent to be written. `Post` is the function's contract, read off the code: these would not hold of a weaker one.
 -- Assumes nothing.
-use mathlib.Core.Path.{sym, ap, ◌∙◌}
-use Rattle.laws.specs.NoChoice.{OneAnswer, OneLater}
+use mathlib.Core.Path.{sym, ◌∙◌}
+use Rattle.laws.specs.NoChoice.{OneAnswer, OneSeen, OneLater}
 use Rattle.refusal.proofs.Answers.{told_faithful, found_faithful}
 use Rattle.chain.proofs.Answers.{told_faithful as placed_faithful}
 use Rattle.adopt.proofs.adopt.Kinds as adopt-kinds
@@ -11,6 +11,8 @@ use Rattle.adopt.proofs.choose.Kinds as adopt-choose-kinds
 use Rattle.adopt.proofs.choose.Reads as adopt-choose
 use Rattle.adopt.proofs.judge.Kinds as adopt-judge-kinds
 use Rattle.adopt.proofs.judge.Reads as adopt-judge
+use Rattle.block.proofs.Orders.as_slice.Kinds as block-as-slice-kinds
+use Rattle.block.proofs.Orders.as_slice.Reads as block-as-slice
 use Rattle.block.proofs.length.Kinds as block-length-kinds
 use Rattle.block.proofs.length.Reads as block-length
 use Rattle.block.proofs.none.Kinds as block-no-block-kinds
@@ -139,6 +141,8 @@ use Rattle.pool.proofs.take.Kinds as pool-take-kinds
 use Rattle.pool.proofs.take.Reads as pool-take
 use Rattle.printed.proofs.station.Kinds as printed-station-kinds
 use Rattle.printed.proofs.station.Reads as printed-station
+use Rattle.refusal.proofs.Refusal.number.Kinds as refusal-number-kinds
+use Rattle.refusal.proofs.Refusal.number.Reads as refusal-number
 use Rattle.report.proofs.report.Kinds as report-kinds
 use Rattle.report.proofs.report.Reads as report
 use Rattle.sha256.proofs.digest.Kinds as sha256-digest-kinds
@@ -156,6 +160,10 @@ use Rattle.walk.proofs.walked.Reads as walked
 use Rattle.walk.proofs.walked_on.Kinds as walked-on-kinds
 use Rattle.walk.proofs.walked_on.Reads as walked-on
 use Rattle.once.proofs.Pairs.{paired}
+
+-- ---- refusal
+pub refusal_number_answers_once : OneAnswer 0 refusal-number-kinds.ps refusal-number-kinds.r refusal-number.Post
+refusal_number_answers_once κs a x y s t p q = p ∙ sym q
 
 -- ---- buffer
 pub fits_answers_once : OneAnswer 0 buffer-fits-kinds.ps buffer-fits-kinds.r buffer-fits.Post
@@ -272,6 +280,9 @@ slot_text_answers_once κs a x y s t p q = told_faithful x y (p.0 ∙ sym q.0)
 
 pub slot_text_leaves_its_buffer_once : OneLater 1 block-slot-text-kinds.ps block-slot-text-kinds.r block-slot-text.Post (λ κs s. s.0.now)
 slot_text_leaves_its_buffer_once κs a x y s t p q = p.1 ∙ sym q.1
+
+pub as_slice_answers_once : OneSeen 1 block-as-slice-kinds.ps block-as-slice-kinds.r block-as-slice.Post (λ κs r. r.now)
+as_slice_answers_once κs a x y s t p q = p ∙ sym q
 
 pub block_length_answers_once : OneAnswer 0 block-length-kinds.ps block-length-kinds.r block-length.Post
 block_length_answers_once κs a x y s t p q = p ∙ sym q

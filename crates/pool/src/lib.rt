@@ -21,7 +21,7 @@ pub const ROOM: u32 = 64;
 pub const DEPOTS: u32 = 4;
 
 // How many entries a depot may have: of those that count, and where an order is added of all.
-pub const DEPOT_ROOM: usize = 16;
+pub const DEPOT_ROOM: u32 = 16;
 
 #[repr(C)]
 #[derive(Clone, Copy, Debug, PartialEq, Eq)]
@@ -144,7 +144,7 @@ fn all_fit(clock: Slot, entries: &[Entry]) -> bool
 fn shares_fit(entries: &[Entry]) -> bool
     ensures { result ≡ spec.shares_fit entries.now }
 {
-    (0..DEPOTS).all(|depot| of_depot(entries, depot) <= DEPOT_ROOM)
+    (0..DEPOTS).all(|depot| of_depot(entries, depot) <= DEPOT_ROOM as usize)
 }
 
 // How many entries are a depot's.
@@ -246,7 +246,7 @@ fn join(
     if !order::valid(&taken.releases, order) {
         return Err(Refusal::BadOffer);
     }
-    if DEPOT_ROOM <= of_depot(pool.present(), depot) {
+    if DEPOT_ROOM as usize <= of_depot(pool.present(), depot) {
         return Err(Refusal::DepotFull);
     }
     *pool = Pool::of(pool.present());

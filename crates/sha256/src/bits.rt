@@ -9,7 +9,7 @@ pub fn sum(a: u32, b: u32) -> u32
     a.wrapping_add(b)
 }
 
-#[tactic(auto, using(crate::proofs::Digits::ch_is))]
+#[tactic(auto, using(crate::proofs::Digits::ch_short))]
 pub fn ch(x: u32, y: u32, z: u32) -> u32
     ensures { result ≡ sha.ch x y z }
 {

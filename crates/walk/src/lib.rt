@@ -58,18 +58,19 @@ impl<'a> Walk<'a> {
     }
 }
 
-// What a walk that begins at a place meets first. This and `walked_on` stay two: the theorem on no second answer is on each.
-pub fn walked(chain: &[u8], at: usize) -> Result<Option<Block>, Refusal>
-    ensures { told result ≡ given_as block_of (step_at chain.now at) }
+// What a walk that begins at a place meets first, and the place after it. This and `walked_on` stay two: the theorem on no second answer is on each.
+pub fn walked(chain: &[u8], at: usize) -> Result<Option<(Block, usize)>, Refusal>
+    ensures { told result ≡ given_as held (step_at chain.now at) }
 {
-    Walk::new(chain, at).next()
+    let walk = Walk::new(chain, at);
+    step(walk.chain, walk.at)
 }
 
 // What it meets then.
-pub fn walked_on(chain: &[u8], at: usize) -> Result<Option<Block>, Refusal>
-    ensures { told result ≡ given_as block_of (step_at chain.now (place_after at (step_at chain.now at))) }
+pub fn walked_on(chain: &[u8], at: usize) -> Result<Option<(Block, usize)>, Refusal>
+    ensures { told result ≡ given_as held (step_at chain.now (place_after at (step_at chain.now at))) }
 {
     let mut walk = Walk::new(chain, at);
     let _ = walk.next();
-    walk.next()
+    step(walk.chain, walk.at)
 }

@@ -17,6 +17,7 @@ pub fn walk(rt: &impl Print, case: &Case) {
             Ok(None) => say(rt, "end"),
             Err(refusal) => refused(rt, refusal),
         }
-        return say(rt, format_args!(", then at {}", walk.at));
+        let after = walk::place_after(walk.chain, walk.at);
+        return say(rt, format_args!(", then at {after}"));
     }
 }

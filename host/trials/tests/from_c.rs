@@ -1,6 +1,6 @@
 //! The programs in C that go through `include/ledger.h`: each call (`host/c/every_call.c`), the helpers (`every_helper.c`), what a call takes of
-//! the stack (`stack.c`), and the examples `small_run.c`, `recovery.c` and `boot_check.c`. What the examples print is worked out here by hand from 01
-//! and 02.
+//! the stack (`stack.c`), what the archive needs from outside (`bare.c`), and the examples `small_run.c`, `recovery.c` and `boot_check.c`. What the
+//! examples print is worked out here by hand from 01 and 02.
 use std::path::Path;
 use std::process::Command;
 
@@ -124,6 +124,24 @@ fn every_helper() {
 fn no_call_takes_more_stack_than_the_headers_say() {
     let (table, within) = printed("stack");
     assert!(within, "{table}");
+}
+
+/// The whole archive, linked with `bare.c` and no library.
+#[test]
+fn the_archive_needs_memcpy_and_memset_alone() {
+    let linked = compiler()
+        .args(["-std=c99", "-Wall", "-Wextra", "-Werror", "-Wpedantic"])
+        .args(["-O1", "-fno-tree-loop-distribute-patterns"])
+        .args(["-nostdlib", "-static", "-Wl,--entry=ledger_turn"])
+        .arg(root().join("host/c/bare.c"))
+        .arg("-Wl,--whole-archive")
+        .arg(root().join("target/staticlib/libledger.a"))
+        .arg("-Wl,--no-whole-archive")
+        .arg("-o")
+        .arg(Path::new(env!("CARGO_TARGET_TMPDIR")).join("bare"))
+        .status()
+        .expect("a compiler for C");
+    assert!(linked.success());
 }
 
 /// For a host in C++ the headers are enough, and the layout that they assert is C's.

@@ -1,6 +1,6 @@
 -- `sha256::bytes_of` meets its contract.
 -- Assumes nothing.
-use Rattle.std.proofs.Common.{◌≡◌, ℕ, zero, suc, ◌-◌, ◌/◌, ◌%◌, ◌^◌, ◌<◌, List, get_or, refl, sym, ap, ◌∙◌, div-one, arith, rules, w32}
+use Rattle.std.proofs.Common.{◌≡◌, ℕ, zero, suc, ◌-◌, ◌/◌, ◌%◌, ◌^◌, ◌<◌, get_or, refl, sym, ap, ◌∙◌, div-one, arith, rules, w32}
 use Rattle.std.specs.Int.{to_be_bytes}
 use Rattle.sha256.specs.Sha256.{digest_byte}
 use Rattle.sha256.proofs.Made.{made}

@@ -1,13 +1,13 @@
 -- `sha256::stands_at` meets its contract.
 -- Assumes nothing.
-use Rattle.std.proofs.Common.{◌≡◌, ℕ, suc, ◌-◌, ◌<◌, ◌⊎◌, Bool, true, false, ◌&&◌, eqb, List, [], ◌∷◌, length, take, drop, sym, refl, ap, ◌∙◌, arith, rules, take_all, length-drop}
-use Rattle.std.specs.Prelude.{Option, Some, None}
+use Rattle.std.proofs.Common.{◌≡◌, ℕ, ◌-◌, ◌<◌, ◌⊎◌, false, eqb, List, [], ◌∷◌, length, take, drop, refl, ap, ◌∙◌, arith, rules, take_all, length-drop}
+use Rattle.std.specs.Prelude.{Some, None}
 use Rattle.std.specs.Cmp.Lexicographic.{pointwise}
 use Rattle.std.specs.List.{slice_range}
 use Rattle.std.proofs.lemmas.Bool.Decides.{nat_tests}
 use lib.ListN.{drop_of_length-le}
 use Rattle.laws.specs.Bytes.{part}
-use Rattle.laws.specs.Every.{both, same}
+use Rattle.laws.specs.Every.{same}
 use Rattle.sha256.proofs.stands_at.Goals as goal
 
 same_bytes : (xs ys : List ℕ) → pointwise eqb ys xs ≡ same xs ys

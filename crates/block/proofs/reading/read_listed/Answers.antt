@@ -2,7 +2,7 @@
 -- Assumes nothing.
 use mathlib.Core.Path.{◌≡◌, sym, ap, ◌∙◌}
 use native.Mathlib.Omega.{arith}
-use lib.ListN.{length, take, drop, replicate, length-set}
+use lib.ListN.{take, replicate, length-set}
 use lib.Seq.{take_all, length-take-le}
 use mathlib.Core.List.{◌++◌}
 use Prim.Native.Nat.{◌-◌}
